@@ -110,6 +110,12 @@ impl Keyspace {
             .hold(reply_bytes(fields.len(), xadd::bytes_of(fields)));
     }
 
+    /// How many bytes it takes at most to make the reply of the greatest entry that was added or held room for. The
+    /// reserve has room for it.
+    pub fn greatest_reply(&self) -> usize {
+        self.reserve.greatest()
+    }
+
     /// Applies one command at a moment, and gives its reply. What is refused changes nothing. The reply
     /// `OOM` says out of memory, and comes only if there is no other refusal.
     pub fn apply(&mut self, now: Moment, command: &Command) -> Reply

@@ -4,3 +4,4 @@ pub mod KeysSoFar
 pub mod PiecesInTurn
 pub mod PiecesAhead
 pub mod RestorableContents
+pub mod RestorableHistories

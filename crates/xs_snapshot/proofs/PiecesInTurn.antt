@@ -1,16 +1,15 @@
 -- The pieces that were read of a snapshot are its first.
-use Rattle.std.proofs.Common.{◌≡◌, ℕ, List, [], ◌∷◌, ◌++◌, map, length, Option, Some, refl, sym, ap, ◌∙◌, subst}
+use Rattle.std.proofs.Common.{◌≡◌, ℕ, List, [], ◌∷◌, ◌++◌, map, length, Option, Some, refl, sym, ap, ◌∙◌, subst, append-nil}
 use Rattle.std.specs.List.{AllByRecursion}
 use Rattle.xs_devices.specs.Passing.{Passing}
-use Rattle.xs_replay.specs.After.{ServerState}
-use Rattle.xs_replay.specs.Pieces.{Piece, pieces_of}
+use Rattle.xs_replay.specs.Pieces.{Piece}
 use Rattle.xs_replay.specs.SnapshotWords.{Fits}
-use Rattle.xs_replay.specs.Snapshot.{piece_record, IsSnapshotFile}
+use Rattle.xs_replay.specs.Snapshot.{piece_record}
 use Rattle.xs_log.specs.SnapshotPieces.{end_record, front_records, all_records, HasPieces}
 use Rattle.xs_log.specs.SnapshotReading.{SnapshotReading, HasRead, HasReadAll}
 use Rattle.xs_log.proofs.Crashed.{read-whole}
 use Rattle.xs_log.proofs.SnapshotInput.{others_behind}
-use Rattle.xs_log.proofs.SnapshotLaws.{same-piece, file_is, file_has, pieces_whole}
+use Rattle.xs_log.proofs.SnapshotLaws.{same-piece, pieces_whole}
 use Rattle.xs_log.proofs.SnapshotPlaces.{no_end}
 use Rattle.xs_log.proofs.SnapshotReads.{gives_all}
 
@@ -38,3 +37,8 @@ module _ (number : ℕ) (first : Passing) (reading : SnapshotReading) (moment la
   -- all of them, at the end
   pub all-read : HasReadAll number first reading moment pieces → HasPieces number bytes moment pieces
   all-read end = subst (λ b. HasPieces number b moment pieces) (read-whole first bytes reading.source end.0 known end.1 end.2) end.3
+
+  -- and no others were written
+  pub same-pieces : HasReadAll number first reading moment pieces → HasPieces number bytes last all → pieces ≡ all
+  same-pieces end is =
+      (pieces_whole number number bytes [] moment last pieces all (all-read end) (subst (λ b. HasPieces number b last all) (sym (append-nil bytes)) is)).2

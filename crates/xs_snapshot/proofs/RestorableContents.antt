@@ -172,6 +172,10 @@ found-row : (rows : Rows) (ds : PendingEntries) (id : Id) (row : RowState) (more
 unfolding get
 found-row rows ds id row more split past = ap (find id_cmp id) split ∙ find-at id_cmp ids_total ds id row more past
 
+pub found-name : {X : Type 0} (m : NameMap X) (ds : List (Bytes × X)) (e : Bytes × X) (es : List (Bytes × X)) → m.entries ≡ ds ++ e ∷ es → get m e.0 ≡ Some e.1
+unfolding get
+found-name m ds e es is = ap (find (slice_cmp nat_cmp) e.0) is ∙ find-at (slice_cmp nat_cmp) nat_list_cmp_total ds e.0 e.1 es (before-entry (slice_cmp nat_cmp) m ds e es is)
+
 module _ (content before : Content) (k : KeySoFar) (rest : List Piece) (last : LastKey content.entries before.entries k rest) (can : IsRestorable content) where
   restorable : IsRestorableKey last.key.1
   restorable = all-at (λ (e : Bytes × KeyState). IsRestorableKey e.1) before.entries last.key last.later (subst (AllByRecursion (λ (e : Bytes × KeyState). IsRestorableKey e.1)) last.split can)

@@ -4,6 +4,7 @@
 mod group_builder;
 mod key_builder;
 pub mod keyspace_builder;
+pub mod laws;
 pub mod reading;
 
 pub use keyspace_builder::KeyspaceBuilder;

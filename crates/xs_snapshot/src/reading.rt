@@ -7,7 +7,8 @@ ghost use Rattle.xs_replay.specs.Snapshot.{IsSnapshotFile};
 ghost use Rattle.xs_log.specs.PieceOf.{piece_of};
 ghost use Rattle.xs_log.specs.SnapshotFault.{HasRunOut};
 ghost use Rattle.xs_snapshot.specs.Building.{pieces_so_far};
-ghost use Rattle.xs_snapshot.specs.NextPiece.{is_whole, may_follow, IsInOrder, AreFitting};
+ghost use Rattle.xs_snapshot.specs.NextPiece.{is_whole, may_follow, IsInOrder};
+ghost use Rattle.xs_snapshot.specs.Restorable.{IsRestorable};
 
 use crate::keyspace_builder::KeyspaceBuilder;
 use std::alloc::{AllocError, Global};
@@ -58,10 +59,10 @@ pub fn read_snapshot<R: Source + Drop>(
     // All bytes of the source are a snapshot of what is given.
     ensures ok { (bytes : List ℕ) → known_by R.rest source ≡ Some bytes →
         IfOk result (λ read. IsSnapshotFile number bytes (record { content = read.0; moment = read.1 })) }
-    // A snapshot with this number whose pieces fit is never refused, unless memory, the source or a number of 64 bits
-    // runs out.
+    // A snapshot with this number is never refused if its content is restorable, unless memory, the source or a number
+    // of 64 bits runs out.
     ensures err { (bytes : List ℕ) (state : ServerState) → known_by R.rest source ≡ Some bytes →
-        IsSnapshotFile number bytes state → AreFitting (pieces_of state.content) → IfErr result HasRunOut }
+        IsSnapshotFile number bytes state → IsRestorable state.content → IfErr result HasRunOut }
 {
     let (mut reader, moment) = SnapshotReader::open(alloc, number, source)?;
     let mut builder = KeyspaceBuilder::new(alloc);
