@@ -1,5 +1,6 @@
 -- Which piece may come next.
-use Rattle.std.specs.Prelude.{◌≡◌, ◌==◌, ℕ, Bool, ◌&&◌, List, [], ◌∷◌, length, Option, Some, None, is_none, IfNone, MatchOption, true, false, ◌++◌}
+use Rattle.std.specs.Prelude.{◌≡◌, ◌==◌, ℕ, Bool, true, false, ◌&&◌, List, [], ◌∷◌, ◌++◌, length, Option, Some, None}
+use Rattle.std.specs.Prelude.{is_none, IfNone, MatchOption}
 use Rattle.std.specs.Option.{option_map_or}
 use Rattle.xs_stream.specs.declared.id.Id.{Id}
 use Rattle.xs_stream.specs.Id.{is_below, zero_id}
@@ -43,8 +44,8 @@ abbrev pub is_past_if_there : {X Y : Type 0} → Option (Bytes × X) → NameMap
 is_past_if_there None m = true
 is_past_if_there (Some e) m = is_past_names e.0 m
 
--- the key may end here: the name of its last group is above those of the others, its top isn't below its last entry, and
--- there are ids for all entries that were added
+-- the key may end here: the name of its last group is above those of the others, its top isn't below its last entry,
+-- and there are ids for all entries that were added
 abbrev pub may_end : KeySoFar → Bool
 may_end k =
     is_past_if_there k.group k.key.1.groups
@@ -75,7 +76,8 @@ pub record AreFitting (pieces : List Piece) : Type 0 where
       pieces ≡ pieces_so_far b ++ piece ∷ more → may_follow b piece ≡ true
   pub ends : (b : Building) → IsInOrder b → pieces ≡ pieces_so_far b → is_whole b ≡ true
 
--- the top of a stream is that of its last entry, and groups stand before the last one only
-pub record IsKeySoFar (stream : StreamInMemory) (groups : NameMap GroupState) (group : Option (Bytes × GroupState)) : Type 0 where
+-- inside of a key: the top of its stream is the id of the last entry, and other groups stand before the last one only
+pub record IsKeySoFar
+    (stream : StreamInMemory) (groups : NameMap GroupState) (group : Option (Bytes × GroupState)) : Type 0 where
   pub top_is_last : stream.top ≡ last_id stream.entries
   pub groups_are_first : IfNone group (groups.entries ≡ [])

@@ -5,8 +5,8 @@ ghost use Rattle.xs_bytes.specs.SortedMap.{empty};
 ghost use Rattle.xs_keys.specs.KeysRoom.{key_state_of};
 ghost use Rattle.xs_replay.specs.Pieces.{of_entry, of_group, of_consumer, of_row, pieces_of_group, pieces_of_key};
 ghost use Rattle.xs_snapshot.specs.Building.{pieces_if_there, pieces_of_key_so_far};
-ghost use Rattle.xs_snapshot.specs.NextPiece.{is_next_entry, is_past_if_there, has_next_consumer, has_next_row, may_end};
-ghost use Rattle.xs_snapshot.specs.NextPiece.{AreGroupsFirst};
+ghost use Rattle.xs_snapshot.specs.NextPiece.{is_next_entry, has_next_consumer, has_next_row, is_past_if_there};
+ghost use Rattle.xs_snapshot.specs.NextPiece.{may_end, AreGroupsFirst};
 
 use crate::group_builder::GroupBuilder;
 use std::alloc::{AllocError, Global};
@@ -40,10 +40,13 @@ impl Model for KeyBuilder {
     ghost coded = { coded_key_so_far };
 
     ghost view = { λ b. record {
-      key = (b.name, record {
-        stream = record { top = b.top; entries = b.stream.entries; added = b.added; deleted = b.deleted };
-        groups = b.groups;
-      });
+      key = (
+        b.name,
+        record {
+          stream = record { top = b.top; entries = b.stream.entries; added = b.added; deleted = b.deleted };
+          groups = b.groups;
+        },
+      );
       group = b.group;
     } };
 
@@ -69,10 +72,13 @@ impl KeyBuilder {
     pub(crate) fn new(alloc: Global, name: Bytes, top: Id, added: u128, deleted: Id) -> Self
         ensures first { AreGroupsFirst result }
         ensures value { result ≡ record {
-          key = (name, record {
-            stream = record { top = top; entries = []; added = added; deleted = deleted };
-            groups = empty;
-          });
+          key = (
+            name,
+            record {
+              stream = record { top = top; entries = []; added = added; deleted = deleted };
+              groups = empty;
+            },
+          );
           group = None;
         } }
     {

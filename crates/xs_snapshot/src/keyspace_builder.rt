@@ -105,7 +105,9 @@ impl KeyspaceBuilder {
         ensures pieces { IfOk result (λ found. IfSome found (λ keyspace. pieces_of keyspace ≡ pieces_so_far self)) }
     {
         let Self {
-            mut keyspace, key, ..
+            mut keyspace,
+            key,
+            ..
         } = self;
         if push_key(&mut keyspace, key)? {
             return Ok(Some(keyspace));

@@ -18,11 +18,7 @@ use xs_log::{Piece, SnapshotFault, SnapshotReader};
 use xs_stream::Moment;
 
 /// Puts the next piece, behind so many.
-fn put_next(
-    builder: &mut KeyspaceBuilder,
-    piece: Piece,
-    count: u64,
-) -> Result<(), SnapshotFault>
+fn put_next(builder: &mut KeyspaceBuilder, piece: Piece, count: u64) -> Result<(), SnapshotFault>
     ensures ok { OnOk result (pieces_so_far builder.new ≡ pieces_so_far builder.old ++ piece_of piece ∷ []) }
     ensures order { IsInOrder builder.new }
     ensures err { may_follow builder.old (piece_of piece) ≡ true → IfErr result HasRunOut }
