@@ -13,7 +13,9 @@ use Rattle.std.specs.Cmp.Lexicographic.{slice_cmp, nat_list_cmp_total}
 use Rattle.xs_bytes.specs.MapOf.{from_entries}
 use Rattle.xs_group.proofs.Ordered.{is_sorted-from}
 use Rattle.xs_bytes.specs.SortedMap.{NameMap, get, has_key, insert, remove}
+use Rattle.std.specs.List.{list_all}
 use Rattle.xs_keys.specs.Terms.{is_same_name}
+use Rattle.xs_keys.specs.NextName.{is_name_before, is_past_names}
 use Rattle.xs_keys.proofs.NameMaps.{name_exact, same_map, get-insert, get-remove}
 use borrow.Follows.Closed.{read_of}
 
@@ -33,6 +35,10 @@ module _ {X : Type 0} where
       let made = from_entries m.entries in
       same_entries (slice_cmp nat_cmp) nat_list_cmp_total name_exact made.entries m.entries made.sorted (is_sorted-from (slice_cmp nat_cmp) m.entries ordered)
       (λ q. get-of_entries nat_list_cmp_total m.entries q)
+
+  -- a name is above the same names
+  pub past-entries : (m : BTreeMap (List ℕ) X) (name : List ℕ) → IsOrdered (slice_cmp nat_cmp) m → is_past_names name (from_entries m.entries) ≡ list_all (λ e. is_name_before e.0 name) m.entries
+  past-entries m name ordered = ap (λ (es : List (List ℕ × X)). list_all (λ e. is_name_before e.0 name) es) (entries-entries m ordered)
 
 -- taking a name out leaves one entry less if it is there
 pub length-remove : {X : Type 0} (m : NameMap X) (name : List ℕ) → cond (has_key m name) 1 0 + length (remove m name).entries ≡ length m.entries

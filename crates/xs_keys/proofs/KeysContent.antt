@@ -10,6 +10,9 @@ use Rattle.xs_bytes.proofs.SortedMaps.{get-of_entries, get-empty}
 use Rattle.xs_keys.specs.Terms.{is_same_name}
 use Rattle.xs_keys.specs.Content.{KeyState}
 use Rattle.xs_keys.specs.KeysRoom.{KeyInMemory, key_state_of, state_in, content_of}
+use Rattle.std.specs.List.{list_all}
+use Rattle.std.proofs.lemmas.List.Folds.{list_all-map}
+use Rattle.xs_keys.specs.NextName.{is_name_before, is_past_names}
 use Rattle.xs_keys.proofs.NameMaps.{name_exact, same_map, get-insert, get-remove}
 
 abbrev pub Held : Type 0
@@ -61,7 +64,7 @@ length-states : (es : Held) → length (states es) ≡ length es
 length-states [] = refl
 length-states (e ∷ es) = ap suc (length-states es)
 
--- the same keys are there, in the same order
+-- each key with what it holds
 pub entries-content : (m : NameMap KeyInMemory) → (content_of m).entries ≡ states m.entries
 unfolding get
 entries-content m =
@@ -71,3 +74,8 @@ entries-content m =
 -- as many keys are there
 pub length-content : (m : NameMap KeyInMemory) → length (content_of m).entries ≡ length m.entries
 length-content m = ap length (entries-content m) ∙ length-states m.entries
+
+-- a name is above the same names
+pub past-content : (m : NameMap KeyInMemory) (name : List ℕ) → is_past_names name (content_of m) ≡ is_past_names name m
+past-content m name =
+    ap (list_all (λ e. is_name_before e.0 name)) (entries-content m) ∙ list_all-map (λ (e : List ℕ × KeyState). is_name_before e.0 name) (λ (e : List ℕ × KeyInMemory). (e.0, key_state_of e.1)) m.entries

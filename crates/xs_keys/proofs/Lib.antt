@@ -20,6 +20,7 @@ pub mod Lives
 pub mod CodeMaps
 pub mod NameMaps
 pub mod NamedRooms
+pub mod LastNames
 pub mod KeysContent
 pub mod Counted
 pub mod CountedKeys

@@ -1,9 +1,10 @@
 //! The keys, and what a key holds.
-ghost use Rattle.std.specs.Prelude.{◌≡◌, ◌<◌, ◌^◌, ◌%◌, length, map, None, OnOk, OnErr};
+ghost use Rattle.std.specs.Prelude.{◌≡◌, ◌<◌, ◌^◌, ◌%◌, ◌++◌, ◌∷◌, [], length, map, true, false, None, IfOk, OnOk, OnErr};
 ghost use Rattle.std.specs.Option.{option_copied};
 ghost use Rattle.xs_bytes.specs.SortedMap.{empty, get, insert, remove};
 ghost use Rattle.xs_group.specs.GroupRoom.{room_of_group};
 ghost use Rattle.xs_keys.specs.KeysRoom.{key_state_of, state_in, room_of_named, room_of_key, IsRoomOf};
+ghost use Rattle.xs_keys.specs.NextName.{is_past_names};
 ghost use Rattle.xs_keys.specs.ContentAfter.{group_in};
 
 use crate::account::Account;
@@ -132,6 +133,13 @@ impl Keys {
         self.slots.iter()
     }
 
+    /// Whether a name is above those of all keys.
+    fn is_past(&self, key: &Bytes) -> bool
+        ensures { result ≡ is_past_names key.now self.now }
+    {
+        self.slots.is_past(key)
+    }
+
     /// Puts a key in that isn't there.
     pub fn insert(&mut self, key: Bytes, slot: Slot) -> Result<(), AllocError>
         requires { get self.old key ≡ None }
@@ -146,6 +154,23 @@ impl Keys {
             }
             Err(error) => Err(error),
         }
+    }
+
+    /// Puts a key behind all others, and says whether it did. It refuses, and changes nothing, a name that isn't above
+    /// those of all keys.
+    pub fn push(&mut self, key: Bytes, slot: Slot) -> Result<bool, AllocError>
+        ensures next { IfOk result (λ put. put ≡ is_past_names key self.old) }
+        ensures ok { IfOk result (λ put. put ≡ true → self.new ≡ insert self.old key (key_state_of slot)) }
+        ensures behind { IfOk result (λ put. put ≡ true →
+            self.new.entries ≡ self.old.entries ++ (key, key_state_of slot) ∷ []) }
+        ensures refused { IfOk result (λ put. put ≡ false → self.new ≡ self.old) }
+        ensures err { OnErr result (self.new ≡ self.old) }
+    {
+        if !self.is_past(&key) {
+            return Ok(false);
+        }
+        self.insert(key, slot)?;
+        Ok(true)
     }
 
     /// Takes a key out.

@@ -1,12 +1,14 @@
 //! The keyspace.
-ghost use Rattle.std.specs.Prelude.{◌≡◌, IfOk, OnErr, All, true};
+ghost use Rattle.std.specs.Prelude.{◌≡◌, ◌++◌, ◌∷◌, [], IfOk, OnErr, All, true, false};
 ghost use Rattle.xs_bytes.specs.SortedMap as map;
 ghost use Rattle.xs_command.specs.WellFormed.{IsWellFormed};
 ghost use Rattle.xs_keys.specs.Headline.{RunsOn};
+ghost use Rattle.xs_keys.specs.KeysRoom.{key_state_of};
+ghost use Rattle.xs_keys.specs.NextName.{is_past_names};
 ghost use Rattle.xs_keys.specs.Step.{Step};
 
 use crate::keys::{Keys, Slot};
-use crate::reserve::Reserve;
+use crate::reserve::{Reserve, reply_bytes};
 use crate::{
     del, in_vain, inspect, ping, xack, xadd, xautoclaim, xclaim, xdel, xgroup, xlen, xpending,
     xrange, xreadgroup, xtrim,
@@ -17,7 +19,7 @@ use xs_bytes::Bytes;
 use xs_command::{Command, ReadGroupCommand};
 use xs_maps::Entries;
 use xs_resp::{Fault, Reply, Simple};
-use xs_stream::Moment;
+use xs_stream::{Field, Moment};
 
 /// The keys and what they hold. A contract sees the content of a history.
 ///
@@ -42,7 +44,6 @@ impl Model for Keyspace {
 }
 
 impl Keyspace {
-    ghost use Rattle.std.specs.Prelude.{false};
     ghost use Rattle.std.specs.Prelude.{length};
     ghost use Rattle.std.specs.Prelude.{map as list_map};
     ghost use Rattle.xs_keys.specs.KeysRoom.{IsRoomOf, key_state_of};
@@ -94,6 +95,34 @@ impl Keyspace {
         ensures { IsRoomOf self.now result }
     {
         self.keys.bytes_held()
+    }
+
+    /// Puts a key behind all others, into a keyspace that is read from a snapshot, and says whether it did. It refuses,
+    /// and changes nothing, a name that isn't above those of all keys.
+    pub fn restore_key(&mut self, name: Bytes, slot: Slot) -> Result<bool, AllocError>
+        ensures next { IfOk result (λ put. put ≡ is_past_names name self.old) }
+        ensures ok { IfOk result (λ put. put ≡ true → self.new ≡ map.insert self.old name (key_state_of slot)) }
+        ensures behind { IfOk result (λ put. put ≡ true →
+            self.new.entries ≡ self.old.entries ++ (name, key_state_of slot) ∷ []) }
+        ensures refused { IfOk result (λ put. put ≡ false → self.new ≡ self.old) }
+        ensures err { OnErr result (self.new ≡ self.old) }
+    {
+        self.keys.push(name, slot)
+    }
+
+    /// An entry with these fields is read from a snapshot: from now on the reserve is whole only with room for its
+    /// reply.
+    pub fn hold_room(&mut self, fields: &[Field])
+        ensures { self.new ≡ self.old }
+    {
+        self.reserve
+            .hold(reply_bytes(fields.len(), xadd::bytes_of(fields)));
+    }
+
+    /// How many bytes it takes at most to make the reply of the greatest entry that was added or held room for. The
+    /// reserve has room for it.
+    pub fn greatest_reply(&self) -> usize {
+        self.reserve.greatest()
     }
 
     /// Applies one command at a moment, and gives its reply. What is refused changes nothing. The reply

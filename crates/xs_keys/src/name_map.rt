@@ -1,8 +1,9 @@
 //! Maps by names.
-ghost use Rattle.std.specs.Prelude.{◌≡◌, ◌<◌, ◌^◌, length, OnOk, OnErr};
+ghost use Rattle.std.specs.Prelude.{◌≡◌, ◌<◌, ◌^◌, ◌++◌, ◌∷◌, [], length, true, false, IfOk, OnOk, OnErr};
 ghost use Rattle.std.specs.Borrow.{sem};
 ghost use Rattle.std.specs.Option.{option_copied, option_copied_mut};
 ghost use Rattle.xs_bytes.specs.SortedMap.{empty, get, has_key, insert, remove};
+ghost use Rattle.xs_keys.specs.NextName.{is_past_names};
 
 use std::alloc::{AllocError, Global};
 use std::marker::Model;
@@ -76,6 +77,19 @@ impl<V> NameMap<V> {
     {
         self.entries.contains_key(name)
     }
+
+    /// Whether a name is above those of all entries.
+    pub fn is_past(&self, name: &Bytes) -> bool
+        ensures { result ≡ is_past_names name.now self.now }
+    {
+        if self.entries.len() == 0 {
+            return true;
+        }
+        match self.entries.last() {
+            Some((last, _)) => last < name,
+            None => true,
+        }
+    }
 }
 
 impl<V: Drop> NameMap<V> {
@@ -85,6 +99,23 @@ impl<V: Drop> NameMap<V> {
         ensures err { OnErr result (self.new ≡ self.old) }
     {
         self.entries.insert(name, value)
+    }
+
+    /// Puts a value behind the others, and says whether it did. It refuses, and changes nothing, a name that isn't
+    /// above those of all entries.
+    pub fn push(&mut self, name: Bytes, value: V) -> Result<bool, AllocError>
+        ensures next { IfOk result (λ put. put ≡ is_past_names name self.old) }
+        ensures ok { IfOk result (λ put. put ≡ true → self.new ≡ insert self.old name value) }
+        ensures behind { IfOk result (λ put. put ≡ true →
+            self.new.entries ≡ self.old.entries ++ (name, value) ∷ []) }
+        ensures refused { IfOk result (λ put. put ≡ false → self.new ≡ self.old) }
+        ensures err { OnErr result (self.new ≡ self.old) }
+    {
+        if !self.is_past(&name) {
+            return Ok(false);
+        }
+        self.insert(name, value)?;
+        Ok(true)
     }
 
     /// Takes the value at a name out.

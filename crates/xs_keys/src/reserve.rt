@@ -141,6 +141,11 @@ impl Reserve {
         self.greatest = self.greatest.max(reply_bytes);
     }
 
+    /// How many bytes the reply of the greatest entry takes that was added.
+    pub(crate) fn greatest(&self) -> usize {
+        self.greatest
+    }
+
     /// Gives all its memory back, and says whether there was any.
     pub(crate) fn give_back(&mut self, alloc: Global) -> bool
         ensures some { result ≡ not (self.old == 0) }

@@ -52,7 +52,7 @@ impl From<AllocError> for NotAdded {
 }
 
 /// How many bytes the names and values of fields have: an entry takes at least as many.
-fn bytes_of(fields: &[Field]) -> u128
+pub(crate) fn bytes_of(fields: &[Field]) -> u128
     ensures { result ≡ bytes_of_fields fields.now }
 {
     let mut bytes = 0u128;

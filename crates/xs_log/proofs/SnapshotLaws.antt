@@ -44,7 +44,7 @@ begin (one ∷ ones) (other ∷ others) more can may e =
     let rest = begin ones others more can.1 may.1 same.1 in
     (rest.0, ap (λ o. o ∷ others) (sym same.0) ∙ ap (λ os. one ∷ os) rest.1, rest.2)
 
-same-piece : (one other : Piece) → Fits one → Fits other → piece_record one ≡ piece_record other → one ≡ other
+pub same-piece : (one other : Piece) → Fits one → Fits other → piece_record one ≡ piece_record other → one ≡ other
 same-piece one other fits may e =
     let same = same-plain (kind_of one) (kind_of other) (values_of one) (values_of other) e in
     let words : words_of_piece one ≡ words_of_piece other = ap (λ k. k ∷ values_of one) same.0 ∙ ap (λ v. kind_of other ∷ v) same.1 in

@@ -28,4 +28,7 @@ pub enum SnapshotFault {
     /// At this byte something stands that isn't what was written, or nothing stands before its end.
     #[error("is damaged at byte {0}")]
     Damaged(u64),
+    /// What stands behind so many pieces, another one or the end, stands there in no snapshot of a keyspace.
+    #[error("is inconsistent behind {0} pieces")]
+    Inconsistent(u64),
 }

@@ -1,6 +1,7 @@
 //! Tests of logs.
 mod crash_points;
 mod log_text;
+mod restored;
 mod snapshot_text;
 mod snapshots;
 mod tape_logs;

@@ -21,12 +21,12 @@ use Rattle.xs_stream.specs.declared.add.AddId.{AddId}
 use Rattle.xs_stream.specs.declared.add.AddId.TheVariants.{Auto, AutoSeq, Exact}
 use Rattle.xs_stream.specs.declared.add.AddError.{AddError}
 use Rattle.xs_stream.specs.declared.add.AddError.TheVariants.{Small, Exhausted}
-use Rattle.xs_stream.specs.Id.{id_cmp, is_below, is_same_id, has_id, greatest_id, greatest_number, successor, id_of_addition, id_of_addition_above}
-use Rattle.xs_stream.specs.StreamContent.{StreamState, ids_of, entries_after_trim, greatest, up_to_limit}
+use Rattle.xs_stream.specs.Id.{id_cmp, is_below, is_same_id, has_id, zero_id, greatest_id, greatest_number, successor, id_of_addition, id_of_addition_above}
+use Rattle.xs_stream.specs.StreamContent.{StreamState, ids_of, AllAbove, entries_after_trim, greatest, up_to_limit}
 use Rattle.xs_stream.specs.ConsistentStream.{IsId, AllIds, rank_of}
 use Rattle.xs_stream.proofs.Assigning.{assigned-above}
-use Rattle.xs_stream.proofs.InOrder.{ids-push, ids-filter}
-use Rattle.xs_stream.proofs.Order.{is_same_id-refl}
+use Rattle.xs_stream.proofs.InOrder.{ids-push, ids-filter, above-push, above-filter}
+use Rattle.xs_stream.proofs.Order.{is_same_id-refl, up_to-below}
 use Rattle.xs_stream.proofs.Past.{rank-below}
 use Rattle.xs_group.specs.declared.claims.Claim.{Claim}
 use Rattle.xs_group.specs.declared.claims.ClaimRule.{ClaimRule}
@@ -58,7 +58,7 @@ use Rattle.xs_replay.specs.Ranges.{AddIdFits, StartFits, RuleFits, CommandFits, 
 -- ---- maps
 
 -- each key is a Q, and each value an S
-abbrev AllOf : {K X : Type 0} → (K → Type 0) → (X → Type 0) → List (K × X) → Type 0
+abbrev pub AllOf : {K X : Type 0} → (K → Type 0) → (X → Type 0) → List (K × X) → Type 0
 AllOf Q S es = AllByRecursion (λ e. Q e.0 × S e.1) es
 
 module _ {K X : Type 0} (R : K → K → Ordering) (Q : K → Type 0) (S : X → Type 0) where
@@ -116,7 +116,7 @@ module _ {K X : Type 0} (R : K → K → Ordering) (Q : K → Type 0) (S : X →
   empty-in = tt
 
 -- a name has no numbers
-abbrev AnyName : Bytes → Type 0
+abbrev pub AnyName : Bytes → Type 0
 AnyName name = Unit {0}
 
 -- what is made of what may be found
@@ -126,11 +126,12 @@ chosen P f (Some a) d some none = some a refl
 
 -- ---- streams
 
-record StreamFits (s : StreamState) : Type 0 where
-  top : IsId s.top
-  added : s.added ≤ rank_of s.top
-  deleted : IsId s.deleted
-  entries : AllIds (ids_of s.entries)
+pub record StreamFits (s : StreamState) : Type 0 where
+  pub top : IsId s.top
+  pub added : s.added ≤ rank_of s.top
+  pub deleted : IsId s.deleted
+  pub entries : AllIds (ids_of s.entries)
+  pub above_zero : AllAbove zero_id (ids_of s.entries)
 
 -- the successor of an id that isn't the greatest
 successor-in : (id : Id) → IsId id → is_same_id id greatest_id ≡ false → IsId (successor id)
@@ -193,6 +194,16 @@ greatest-in (x ∷ xs) a is all = greatest-in xs (if is_below a x then x else a)
 trimmed-in : (trim : Option Trim) (entries : Entries) → AllIds (ids_of entries) → AllIds (ids_of (option_map_or (λ t. entries_after_trim t entries) trim entries))
 trimmed-in trim entries all = chosen (λ es. AllIds (ids_of es)) (λ t. entries_after_trim t entries) trim entries (λ t e. ids-filter _ entries all) all
 
+trimmed-above : (trim : Option Trim) (entries : Entries) → AllAbove zero_id (ids_of entries) → AllAbove zero_id (ids_of (option_map_or (λ t. entries_after_trim t entries) trim entries))
+trimmed-above trim entries all = chosen (λ es. AllAbove zero_id (ids_of es)) (λ t. entries_after_trim t entries) trim entries (λ t e. above-filter _ zero_id entries all) all
+
+-- what is above an id is above 0-0
+above-any : (top id : Id) → IsId top → IsId id → is_below top id ≡ true → is_below zero_id id ≡ true
+above-any top id is fits h = by (is_below top zero_id) refl where
+  by : (t : Bool) → is_below top zero_id ≡ t → is_below zero_id id ≡ true
+  by true e = let less = rank-below top zero_id is.1 e in absurd (omega (arith, less))
+  by false e = up_to-below top zero_id id e h
+
 added-in : (r : Result Id AddError) (fields : List Field) (trim : Option Trim) (s : StreamState) → StreamFits s → ((given : Id) → r ≡ Ok given → IsId given × (is_below s.top given ≡ true)) → StreamFits (stream_with r fields trim s)
 added-in (Err refusal) fields trim s is given = is
 added-in (Ok id) fields trim s is given =
@@ -203,6 +214,8 @@ added-in (Ok id) fields trim s is given =
       added = omega (arith, is.added, higher);
       deleted = is.deleted;
       entries = trimmed-in trim (s.entries ++ (id, fields) ∷ []) (subst AllIds (sym (map-append (λ (e : Id × List Field). e.0) s.entries ((id, fields) ∷ []))) (ids-push (ids_of s.entries) id is.entries new.0));
+      above_zero = trimmed-above trim (s.entries ++ (id, fields) ∷ [])
+          (subst (AllAbove zero_id) (sym (map-append (λ (e : Id × List Field). e.0) s.entries ((id, fields) ∷ []))) (above-push zero_id (ids_of s.entries) id is.above_zero (above-any s.top id is.top new.0 new.1)));
     }
 
 abbrev StreamEventFits : StreamEvent → Type 0
@@ -218,8 +231,10 @@ stream-in (delete_entries ids) s fits is = record {
   added = is.added;
   deleted = greatest-in (filter (has_id ids) (ids_of s.entries)) s.deleted is.deleted (filter-in (has_id ids) (ids_of s.entries) is.entries);
   entries = ids-filter _ s.entries is.entries;
+  above_zero = above-filter _ zero_id s.entries is.above_zero;
 }
-stream-in (trim_entries trim) s fits is = record { top = is.top; added = is.added; deleted = is.deleted; entries = ids-filter _ s.entries is.entries }
+stream-in (trim_entries trim) s fits is =
+    record { top = is.top; added = is.added; deleted = is.deleted; entries = ids-filter _ s.entries is.entries; above_zero = above-filter _ zero_id s.entries is.above_zero }
 
 -- ---- groups
 
@@ -229,7 +244,7 @@ IsSmall n = n < 2 ^ 63
 abbrev RowFits : RowState → Type 0
 RowFits row = IsSmall row.time × IsSmall row.count
 
-record GroupFits (group : GroupState) : Type 0 where
+pub record GroupFits (group : GroupState) : Type 0 where
   cursor : IsId group.cursor
   consumers : AllOf AnyName IsSmall group.consumers.entries
   rows : AllOf IsId RowFits group.rows.entries
@@ -349,11 +364,11 @@ new_group-in start is = record {
 
 -- ---- keys
 
-record KeyFits (key : KeyState) : Type 0 where
-  stream : StreamFits key.stream
-  groups : AllOf AnyName GroupFits key.groups.entries
+pub record KeyFits (key : KeyState) : Type 0 where
+  pub stream : StreamFits key.stream
+  pub groups : AllOf AnyName GroupFits key.groups.entries
 
-abbrev ContentFits : Content → Type 0
+abbrev pub ContentFits : Content → Type 0
 ContentFits content = AllOf AnyName KeyFits content.entries
 
 insert_key : (content : Content) (name : Bytes) (key : KeyState) → KeyFits key → ContentFits content → ContentFits (insert content name key)
@@ -367,7 +382,7 @@ key-found content name key all e = get-in (slice_cmp nat_cmp) AnyName KeyFits co
 
 new_key-in : KeyFits new_key
 new_key-in = record {
-  stream = record { top = (omega arith, omega arith); added = omega arith; deleted = (omega arith, omega arith); entries = tt };
+  stream = record { top = (omega arith, omega arith); added = omega arith; deleted = (omega arith, omega arith); entries = tt; above_zero = tt };
   groups = empty-in (slice_cmp nat_cmp) AnyName GroupFits;
 }
 
@@ -495,8 +510,11 @@ keys-fit (e ∷ keys) all =
     small-added : (s : StreamState) → StreamFits s → s.added < 2 ^ 128
     small-added s fits = omega (arith, fits.added, fits.top.0, fits.top.1)
 
+pub contents-fit : (events : List Event) → AllByRecursion EventFits events → ContentFits (contents_after empty events)
+contents-fit events fit = contents-in empty events fit (empty-in (slice_cmp nat_cmp) AnyName KeyFits)
+
 pub pieces-fit : (events : List Event) → AllByRecursion EventFits events → AllByRecursion Fits (pieces_of (contents_after empty events))
-pieces-fit events fit = keys-fit (contents_after empty events).entries (contents-in empty events fit (empty-in (slice_cmp nat_cmp) AnyName KeyFits))
+pieces-fit events fit = keys-fit (contents_after empty events).entries (contents-fit events fit)
 
 moments-fit : (moment : Option ℕ) (events : List Event) → AllByRecursion EventFits events → IfSome moment IsSmall → IfSome (moment_after moment events) IsSmall
 moments-fit moment [] fit small = small

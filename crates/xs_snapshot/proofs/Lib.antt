@@ -1,2 +1,9 @@
 pub mod Putting
 pub mod Kept
+pub mod PiecesBehind
+pub mod LastConsumers
+pub mod KeysSoFar
+pub mod PiecesInTurn
+pub mod PiecesAhead
+pub mod RestorableContents
+pub mod RestorableHistories

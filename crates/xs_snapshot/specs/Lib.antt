@@ -1,2 +1,5 @@
+pub mod Building
+pub mod NextPiece
+pub mod BuildingCodes
 pub mod Restorable
 pub mod Writing

@@ -1,24 +1,29 @@
--- What a reader asks of a content, so that it can put it together again entry by entry and row by row.
-use Rattle.std.specs.Prelude.{ℕ, ◌≤◌, List}
+-- Which contents a snapshot gives back.
+use Rattle.std.specs.Prelude.{◌≡◌, true}
 use Rattle.std.specs.List.{AllByRecursion}
-use Rattle.xs_stream.specs.StreamContent.{StreamState}
-use Rattle.xs_stream.specs.ConsistentStream.{AreValid, rank_of}
+use Rattle.xs_stream.specs.Id.{zero_id}
+use Rattle.xs_stream.specs.StreamContent.{StreamState, ids_of, Ascends, AllAbove}
+use Rattle.xs_stream.specs.ConsistentStream.{is_history_after}
 use Rattle.xs_group.specs.GroupState.{GroupState}
-use Rattle.xs_group.specs.ConsistentGroup.{IsConsistentGroup}
+use Rattle.xs_group.specs.ConsistentGroup.{IsUpTo}
+use Rattle.xs_group.specs.Indexes.{IsNamed}
 use Rattle.xs_keys.specs.Content.{KeyState, Content}
+use Rattle.xs_snapshot.specs.NextPiece.{last_id}
 
--- the ids of the entries ascend from above 0-0 up to the top, and each addition had an id of its own
+-- the ids ascend from above 0-0, the top isn't below the last one, and there are ids for all entries that were added
 pub record IsRestorableStream (stream : StreamState) : Type 0 where
-  pub valid : AreValid stream.top stream.entries
-  pub few : stream.added ≤ rank_of stream.top
+  pub above_zero : AllAbove zero_id (ids_of stream.entries)
+  pub ascends : Ascends (ids_of stream.entries)
+  pub history : is_history_after (last_id stream.entries) stream.top stream.added ≡ true
 
--- each row's consumer is one of its group, no row is past the cursor, and the ids of the rows ascend
-abbrev pub AreRestorableGroups : List (List ℕ × GroupState) → Type 0
-AreRestorableGroups groups = AllByRecursion (λ e. IsConsistentGroup e.1) groups
+-- each row is of one of the consumers, and none is above the cursor
+pub record IsRestorableGroup (group : GroupState) : Type 0 where
+  pub of_consumers : IsNamed group.consumers group.rows
+  pub up_to_cursor : IsUpTo group.cursor group.rows
 
 pub record IsRestorableKey (key : KeyState) : Type 0 where
   pub stream : IsRestorableStream key.stream
-  pub groups : AreRestorableGroups key.groups.entries
+  pub groups : AllByRecursion (λ e. IsRestorableGroup e.1) key.groups.entries
 
 abbrev pub IsRestorable : Content → Type 0
 IsRestorable content = AllByRecursion (λ e. IsRestorableKey e.1) content.entries

@@ -25,7 +25,7 @@ const QUESTIONS: [&str; 6] = [
     "XADD s * f v",
 ];
 
-fn command_of(alloc: Global, line: &str) -> Result<Command, Fail>
+pub fn command_of(alloc: Global, line: &str) -> Result<Command, Fail>
     ensures { IfOk result IsWellFormed }
 {
     let mut words = Vec::new(alloc);

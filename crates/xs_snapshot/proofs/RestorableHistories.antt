@@ -1,0 +1,87 @@
+-- What events leave is restorable.
+use Rattle.std.proofs.Common.{◌≡◌, ℕ, ◌≤◌, ◌<◌, ◌^◌, Bool, true, false, not, ◌&&◌, nat_le, List, [], ◌∷◌, ◌++◌, Some, refl, sym, ap, ◌∙◌, arith, append_assoc}
+use Rattle.std.specs.List.{AllByRecursion}
+use Rattle.std.proofs.lemmas.Bool.Decides.{nat_tests}
+use Rattle.xs_bytes.specs.SortedMap.{NameMap, get, empty}
+use Rattle.xs_stream.specs.declared.id.Id.{Id}
+use Rattle.xs_stream.specs.Id.{is_below, zero_id}
+use Rattle.xs_stream.specs.StreamContent.{StreamState, AllUpTo, ids_of}
+use Rattle.xs_stream.specs.ConsistentStream.{IsConsistentStream, IsId, rank_of, is_history_after}
+use Rattle.xs_stream.proofs.Past.{rank-below}
+use Rattle.xs_group.specs.GroupState.{GroupState, last_of}
+use Rattle.xs_group.specs.ConsistentGroup.{IsConsistentGroup}
+use Rattle.xs_keys.specs.Event.{Bytes, Event, History, event_moment, event_command}
+use Rattle.xs_keys.specs.Content.{KeyState, Content, IsContent}
+use Rattle.xs_keys.specs.ConsistentContent.{IsConsistentKey}
+use Rattle.xs_keys.proofs.Contents.{content-none, content-step}
+use Rattle.xs_keys.proofs.ConsistentContents.{content-consistent}
+use Rattle.xs_replay.specs.After.{after, contents_after}
+use Rattle.xs_replay.specs.Ranges.{EventFits}
+use Rattle.xs_replay.proofs.InRange.{StreamFits, KeyFits, AllOf, AnyName, contents-fit}
+use Rattle.xs_snapshot.specs.NextPiece.{last_id}
+use Rattle.xs_snapshot.specs.Restorable.{IsRestorableStream, IsRestorableGroup, IsRestorableKey, IsRestorable}
+use Rattle.xs_snapshot.proofs.RestorableContents.{found-name}
+
+-- events follow a history
+history-of : (content : Content) (past : History) (events : List Event) → IsContent content past → (later : History) × IsContent (contents_after content events) later
+history-of content past [] is = (past, is)
+history-of content past (e ∷ events) is =
+    history-of (after content e) ((event_moment e, event_command e) ∷ past) events (content-step past content (event_moment e) (event_command e) is)
+
+-- what holds of each value that is found holds of all
+module _ {X : Type 0} (m : NameMap X) (P : X → Type 0) (found : (name : Bytes) (x : X) → get m name ≡ Some x → P x) where
+  all-behind : (ds es : List (Bytes × X)) → m.entries ≡ ds ++ es → AllByRecursion (λ e. P e.1) es
+  all-behind ds [] is = tt
+  all-behind ds (e ∷ es) is = (found e.0 e.1 (found-name m ds e es is), all-behind (ds ++ e ∷ []) es (is ∙ sym (append_assoc ds (e ∷ []) es)))
+
+  all-values : AllByRecursion (λ e. P e.1) m.entries
+  all-values = all-behind [] m.entries refl
+
+all-as : {A : Type 0} (P Q : A → Type 0) → ((a : A) → P a → Q a) → (xs : List A) → AllByRecursion P xs → AllByRecursion Q xs
+all-as P Q f [] all = tt
+all-as P Q f (x ∷ xs) all = (f x all.0, all-as P Q f xs all.1)
+
+both-all : {A : Type 0} (P Q R : A → Type 0) → ((a : A) → P a → Q a → R a) → (xs : List A) → AllByRecursion P xs → AllByRecursion Q xs → AllByRecursion R xs
+both-all P Q R f [] all every = tt
+both-all P Q R f (x ∷ xs) all every = (f x all.0 every.0, both-all P Q R f xs all.1 every.1)
+
+-- ---- streams
+
+not-below-zero : (id : Id) → IsId id → is_below id zero_id ≡ false
+not-below-zero id is = by (is_below id zero_id) refl where
+  by : (t : Bool) → is_below id zero_id ≡ t → t ≡ false
+  by true e = let less = rank-below id zero_id is.1 e in absurd (omega (arith, less))
+  by false e = refl
+
+last-up_to : (top id : Id) (ids : List Id) → is_below top id ≡ false → AllUpTo top ids → is_below top (last_of id ids) ≡ false
+last-up_to top id [] up all = up
+last-up_to top id (x ∷ xs) up all = last-up_to top x xs all.0 all.1
+
+history-is : (a : Bool) (n m : ℕ) → a ≡ false → n ≤ m → (not a && nat_le n m) ≡ true
+history-is a n m e le = rw e (grind (arith, nat_tests))
+
+stream-restorable : (stream : StreamState) → IsConsistentStream stream → StreamFits stream → IsRestorableStream stream
+stream-restorable stream is fits = record {
+  above_zero = fits.above_zero;
+  ascends = is.ascends;
+  history = history-is (is_below stream.top (last_id stream.entries)) stream.added (rank_of stream.top)
+      (last-up_to stream.top zero_id (ids_of stream.entries) (not-below-zero stream.top fits.top) is.up_to_top) fits.added;
+}
+
+-- ---- groups and keys
+
+group-restorable : (e : Bytes × GroupState) → IsConsistentGroup e.1 → IsRestorableGroup e.1
+group-restorable e is = record { of_consumers = is.of_consumers; up_to_cursor = is.up_to_cursor }
+
+key-restorable : (e : Bytes × KeyState) → IsConsistentKey e.1 → AnyName e.0 × KeyFits e.1 → IsRestorableKey e.1
+key-restorable e is fits = record {
+  stream = stream-restorable e.1.stream is.stream fits.1.stream;
+  groups = all-as (λ (g : Bytes × GroupState). IsConsistentGroup g.1) (λ g. IsRestorableGroup g.1) group-restorable e.1.groups.entries (all-values e.1.groups IsConsistentGroup is.groups);
+}
+
+pub events-restorable : (events : List Event) → AllByRecursion EventFits events → IsRestorable (contents_after empty events)
+events-restorable events fit =
+    let content = contents_after empty events in
+    let past = history-of empty [] events content-none in
+    both-all (λ (e : Bytes × KeyState). IsConsistentKey e.1) (λ e. AnyName e.0 × KeyFits e.1) (λ e. IsRestorableKey e.1) key-restorable content.entries
+    (all-values content IsConsistentKey (content-consistent past.0 content past.1)) (contents-fit events fit)
