@@ -1,6 +1,5 @@
 //! A folder of logs is opened, and what its logs leave is recovered.
 ghost use Rattle.std.specs.Prelude.{◌≡◌, List, false, length, IfOk};
-ghost use Rattle.xs_bytes.specs.SortedMap.{empty};
 ghost use Rattle.xs_keys.specs.Event.{Event};
 ghost use Rattle.xs_replay.specs.After.{contents_after};
 
@@ -16,9 +15,10 @@ use crate::syncing::SyncPolicy;
 use std::alloc::{AllocError, Global};
 use std::fs::File;
 use std::rt::Files;
+use std::snapshot::Snapshot;
 use std::sync::Arc;
 use xs_keys::Keyspace;
-use xs_log::{Extent, Recovered, TapeLog, restart};
+use xs_log::{Extent, Recovered, TapeLog, recover};
 use xs_replay::EventLog;
 use xs_stream::Moment;
 
@@ -28,6 +28,8 @@ const FULL: u64 = 67_108_864;
 /// What a folder of logs gives.
 #[derive(Drop)]
 pub struct OpenedFolder<R: Files<File = File> + Copy + Drop> {
+    /// The content before the first event of the logs that were read.
+    pub first: Snapshot<Keyspace>,
     /// The content after the events of all logs.
     pub keyspace: Keyspace,
     /// The moment of the last event, if there is one.
@@ -58,20 +60,22 @@ fn read_logs<R: Files<File = File> + Copy + Drop>(
     Ok((closed, last))
 }
 
-/// What the logs of a folder leave.
+/// What the logs of a folder leave of what was there at the start.
 fn recover_logs<R: Files<File = File> + Copy + Drop>(
     rt: &R,
     alloc: Global,
     folder: &str,
     count: u64,
+    start: Recovered,
     progress: &Arc<Progress>,
 ) -> Result<(Recovered, Extent), FolderFault>
-    ensures { IfOk result (λ found. (events : List Event) × (found.0.keyspace ≡ contents_after empty events)) }
+    ensures { IfOk result (λ found. (events : List Event)
+        × (found.0.keyspace ≡ contents_after start.keyspace events)) }
 {
     let Ok((closed, last)) = read_logs(rt, alloc, folder, count, progress) else {
         return Err(FolderFault::Memory);
     };
-    restart(alloc, closed, last).map_err(FolderFault::Log)
+    recover(alloc, 1, start, closed, last).map_err(FolderFault::Log)
 }
 
 /// The last log, to be gone on with.
@@ -107,7 +111,7 @@ fn begin_first<R: Files<File = File> + Copy + Drop>(
     policy: SyncPolicy,
 ) -> Result<OpenedFolder<R>, FolderFault>
     ensures content { IfOk result (λ opened. (events : List Event)
-        × (opened.keyspace ≡ contents_after empty events)) }
+        × (opened.keyspace ≡ contents_after opened.first.value events)) }
     ensures sound { IfOk result (λ opened. ⟦<TapeLog<FileTape<R>> as EventLog>⟧.broken opened.log ≡ false) }
     ensures has { IfOk result (λ opened. (events : List Event) →
         ⟦<TapeLog<FileTape<R>> as EventLog>⟧.has opened.log events (length events)) }
@@ -116,8 +120,10 @@ fn begin_first<R: Files<File = File> + Copy + Drop>(
         return Err(FolderFault::Broken(1));
     };
     let log = go_on(rt, alloc, folder, lock, file, 1, 0, policy)?;
+    let keyspace = Keyspace::new(alloc);
     Ok(OpenedFolder {
-        keyspace: Keyspace::new(alloc),
+        first: Snapshot::of(&keyspace),
+        keyspace,
         last: None,
         records: 0,
         dropped: 0,
@@ -137,7 +143,7 @@ pub fn open_folder<R: Files<File = File> + AllocGlobal + Copy + Drop>(
     progress: &Arc<Progress>,
 ) -> Result<OpenedFolder<R>, FolderFault>
     ensures content { IfOk result (λ opened. (events : List Event)
-        × (opened.keyspace ≡ contents_after empty events)) }
+        × (opened.keyspace ≡ contents_after opened.first.value events)) }
     ensures sound { IfOk result (λ opened. ⟦<TapeLog<FileTape<R>> as EventLog>⟧.broken opened.log ≡ false) }
     ensures has { IfOk result (λ opened. (events : List Event) →
         ⟦<TapeLog<FileTape<R>> as EventLog>⟧.has opened.log events (length events)) }
@@ -149,7 +155,9 @@ pub fn open_folder<R: Files<File = File> + AllocGlobal + Copy + Drop>(
     if count == 0 {
         return begin_first(rt, alloc, folder, lock, policy);
     }
-    let (recovered, extent) = recover_logs(rt, alloc, folder, count, progress)?;
+    let start = Recovered::new(alloc);
+    let first = Snapshot::of(&start.keyspace);
+    let (recovered, extent) = recover_logs(rt, alloc, folder, count, start, progress)?;
     let file = open_last(rt, alloc, folder, count, extent.whole)?;
     let log = go_on(rt, alloc, folder, lock, file, count, extent.whole, policy)?;
     let Recovered {
@@ -158,6 +166,7 @@ pub fn open_folder<R: Files<File = File> + AllocGlobal + Copy + Drop>(
         records,
     } = recovered;
     Ok(OpenedFolder {
+        first,
         keyspace,
         last,
         records,

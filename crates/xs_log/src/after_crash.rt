@@ -42,5 +42,5 @@ pub fn restart<R: Source + Drop>(
         (λ found. Restarts tape events kept file found.0.keyspace found.0.last found.1.whole)
         (λ refusal. IsWant refusal.fault) }
 {
-    recover(alloc, 1, closed, last)
+    recover(alloc, 1, Recovered::new(alloc), closed, last)
 }

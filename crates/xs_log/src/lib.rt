@@ -27,7 +27,7 @@ pub use closed::read_closed_log;
 pub use fault::LogFault;
 pub use header::MODEL_NUMBER;
 pub use last::read_last_log;
-pub use logs::{LogsFault, recover};
+pub use logs::{LogsFault, read_closed_logs, recover};
 pub use piece::Piece;
 pub use reading::{Extent, Recovered, read_log};
 pub use snapshot_fault::SnapshotFault;

@@ -1,7 +1,6 @@
 //! All logs of a server, in their order.
-ghost use Rattle.std.specs.Prelude.{◌≡◌, ◌+◌, ◌≤◌, ◌++◌, ℕ, List, None, Some, length, take, drop, IfErr, IfOk};
+ghost use Rattle.std.specs.Prelude.{◌≡◌, ◌+◌, ◌≤◌, ◌++◌, ℕ, List, Some, length, take, drop, IfErr, IfOk};
 ghost use Rattle.xs_devices.specs.Passing.{known_by};
-ghost use Rattle.xs_bytes.specs.SortedMap.{empty};
 ghost use Rattle.xs_keys.specs.Event.{Event};
 ghost use Rattle.xs_tape.specs.Crash.{before_zero};
 ghost use Rattle.xs_tape.specs.Heads.{MayBeCut};
@@ -28,7 +27,10 @@ pub struct LogsFault {
 
 /// Reads closed logs, one after the other, whose numbers count up from this one, onto what the logs before them left.
 /// It gives the number of the next.
-fn read_closed_logs<R: Source + Drop>(
+///
+/// # Errors
+/// A `LogsFault`.
+pub fn read_closed_logs<R: Source + Drop>(
     alloc: Global,
     first: u64,
     recovered: &mut Recovered,
@@ -59,20 +61,22 @@ fn read_closed_logs<R: Source + Drop>(
     Ok(number)
 }
 
-/// Reads all logs of a server: those that are closed, whose numbers count up from this one, and the last one behind
-/// them. It gives what their events leave, and how far the last one goes.
+/// Reads all logs of a server, from this number on: those that are closed, whose numbers count up, and the last one
+/// behind them. It gives what their events leave of what was there at the start, and how far the last one goes.
 ///
 /// # Errors
 /// A `LogsFault`.
 pub fn recover<R: Source + Drop>(
     alloc: Global,
     first: u64,
+    start: Recovered,
     closed: Vec<R>,
     last: R,
 ) -> Result<(Recovered, Extent), LogsFault>
     // The content is that of some events.
     ensures content { IfOk result (λ found. (events : List Event)
-        × (found.0.keyspace ≡ contents_after empty events) × (found.0.last ≡ moment_after None events)) }
+        × (found.0.keyspace ≡ contents_after start.keyspace events)
+        × (found.0.last ≡ moment_after start.last events)) }
     // What stands behind the whole records of the last log may be what a crash left of a record.
     ensures cut { (left : List ℕ) → known_by R.rest last ≡ Some left →
         IfOk result (λ found. MayBeCut (drop found.1.whole (before_zero left))) }
@@ -87,10 +91,10 @@ pub fn recover<R: Source + Drop>(
         CrashLeavesLog (first + length closed.items) events kept left → known_by R.rest last ≡ Some left →
         (count : ℕ) × (count ≤ length events) × (kept ≤ count + 1)
         × HasEvents (first + length closed.items) (before_zero left) (take count events) found.1.whole found.1.part
-        × (found.0.keyspace ≡ contents_after empty (before ++ take count events))
-        × (found.0.last ≡ moment_after None (before ++ take count events)))) }
+        × (found.0.keyspace ≡ contents_after start.keyspace (before ++ take count events))
+        × (found.0.last ≡ moment_after start.last (before ++ take count events)))) }
 {
-    let mut recovered = Recovered::new(alloc);
+    let mut recovered = start;
     let number = read_closed_logs(alloc, first, &mut recovered, closed)?;
     match read_last_log(alloc, number, &mut recovered, last) {
         Ok(extent) => Ok((recovered, extent)),

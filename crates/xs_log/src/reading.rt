@@ -30,7 +30,8 @@ pub struct Recovered {
     pub keyspace: Keyspace,
     /// The moment of the last event, if there is one.
     pub last: Option<Moment>,
-    /// How many events there are. It is told to users, and no contract speaks of it.
+    /// How many events there are, but for those that a snapshot stands for. It is told to users, and no contract speaks
+    /// of it.
     pub records: u64,
 }
 
@@ -43,6 +44,18 @@ impl Recovered {
         Self {
             keyspace: Keyspace::new(alloc),
             last: None,
+            records: 0,
+        }
+    }
+
+    /// What a snapshot has.
+    pub fn of_snapshot(keyspace: Keyspace, last: Option<Moment>) -> Self
+        ensures keyspace { result.keyspace ≡ keyspace }
+        ensures last { result.last ≡ last }
+    {
+        Self {
+            keyspace,
+            last,
             records: 0,
         }
     }

@@ -1,6 +1,5 @@
 //! The program's command `run` with a log.
 ghost use Rattle.std.specs.Prelude.{◌≡◌, List, false, length, IfOk, IfErr};
-ghost use Rattle.xs_bytes.specs.SortedMap.{empty};
 ghost use Rattle.xs_keys.specs.Event.{Event};
 ghost use Rattle.xs_replay.specs.After.{contents_after};
 
@@ -12,6 +11,7 @@ use crate::serve_command::DEPTH;
 use std::alloc::{AllocError, Global};
 use std::marker::Model;
 use std::net::{Net, TcpListener, TcpStream};
+use std::snapshot::Snapshot;
 use std::sync::Wait;
 use std::thread::Threads;
 use std::time::Clock;
@@ -82,7 +82,7 @@ pub fn open_logs<
     errors: &mut E,
 ) -> Result<OpenedFolder<HostRuntime>, u8>
     ensures content { IfOk result (λ opened. (events : List Event)
-        × (opened.keyspace ≡ contents_after empty events)) }
+        × (opened.keyspace ≡ contents_after opened.first.value events)) }
     ensures sound { IfOk result (λ opened.
         ⟦<TapeLog<FileTape<HostRuntime>> as EventLog>⟧.broken opened.log ≡ false) }
     ensures has { IfOk result (λ opened. (events : List Event) →
@@ -130,9 +130,11 @@ fn sync_beside<R: Threads + Wait + Clock + Copy + Send + Drop + 'static>(
     }
 }
 
-/// A keyspace, and the log that its content came from and is noted in. Contracts see the content.
+/// A keyspace, and the log that is noted in. The events of the log have left the content of what was there before them.
+/// Contracts see the content.
 #[derive(Drop)]
 struct Store {
+    first: Snapshot<Keyspace>,
     keyspace: Keyspace,
     log: TapeLog<FileTape<HostRuntime>>,
 }
@@ -146,7 +148,7 @@ impl Model for Store {
 
     ghost view = { λ s. s.keyspace };
 
-    ghost invariant = { λ s. ContinuesLog (⟦<TapeLog<FileTape<HostRuntime>> as EventLog>⟧.has) s.log s.keyspace
+    ghost invariant = { λ s. ContinuesLog (⟦<TapeLog<FileTape<HostRuntime>> as EventLog>⟧.has) s.first.value s.log s.keyspace
         × (⟦<TapeLog<FileTape<HostRuntime>> as EventLog>⟧.broken s.log ≡ false) };
 }
 
@@ -157,8 +159,12 @@ fn work_over<
     M: Mode<G> + Send + Drop + 'static,
     R: Threads + Wait + Copy + Send + 'static,
 >(rt: &R, alloc: Global, gates: Vec<G>, clock: C, mode: M, store: Store) -> LoggedEnd {
-    let Store { keyspace, log } = store;
-    work_logged(rt, alloc, gates, DEPTH, clock, mode, keyspace, log)
+    let Store {
+        first,
+        keyspace,
+        log,
+    } = store;
+    work_logged(rt, alloc, gates, DEPTH, clock, mode, keyspace, first, log)
 }
 
 /// Serves the connections of the gates, over a store, and says why it has ended.
@@ -196,7 +202,7 @@ pub fn run_logged<
     out: W,
     errors: &mut E,
 ) -> u8
-    requires content { (events : List Event) × (opened.keyspace ≡ contents_after empty events) }
+    requires content { (events : List Event) × (opened.keyspace ≡ contents_after opened.first.value events) }
     requires sound { ⟦<TapeLog<FileTape<HostRuntime>> as EventLog>⟧.broken opened.log ≡ false }
     requires has { (events : List Event) →
         ⟦<TapeLog<FileTape<HostRuntime>> as EventLog>⟧.has opened.log events (length events) }
@@ -210,6 +216,7 @@ pub fn run_logged<
     let patience = patience.with_most_held_back(most_held_back(log.policy));
     let ready = Ready { gates, patience };
     let OpenedFolder {
+        first,
         keyspace,
         last,
         records,
@@ -217,6 +224,7 @@ pub fn run_logged<
         log: tape_log,
     } = opened;
     let store = Store {
+        first,
         keyspace,
         log: tape_log,
     };

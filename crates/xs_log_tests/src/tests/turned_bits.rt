@@ -6,7 +6,7 @@ use std::alloc::Global;
 use std::process::Abort;
 use std::test::Fail;
 use xs_devices::FromRead;
-use xs_log::{Extent, LogFault};
+use xs_log::{Extent, LogFault, Recovered};
 
 /// The bits of a byte.
 const BITS: [u8; 8] = [1, 2, 4, 8, 16, 32, 64, 128];
@@ -38,7 +38,7 @@ fn tells_of(fault: LogFault, begin: usize) -> bool {
 fn fault_of_closed(alloc: Global, file: &[u8]) -> Result<Option<LogFault>, Fail> {
     let mut closed = Vec::new(alloc);
     closed.push(FromRead::new(file))?;
-    let told = xs_log::recover(alloc, 1, closed, FromRead::new(b"" as &[u8])).err();
+    let told = xs_log::recover(alloc, 1, Recovered::new(alloc), closed, FromRead::new(b"" as &[u8])).err();
     Ok(told.map(|refusal| refusal.fault))
 }
 

@@ -19,7 +19,7 @@ fn recovered_from(
     for bytes in logs {
         closed.push(FromRead::new(*bytes))?;
     }
-    Ok(recover(alloc, 1, closed, FromRead::new(last)))
+    Ok(recover(alloc, 1, Recovered::new(alloc), closed, FromRead::new(last)))
 }
 
 #[test]

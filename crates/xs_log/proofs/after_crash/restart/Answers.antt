@@ -12,7 +12,8 @@ use Rattle.xs_log.proofs.Results.{match_parts, if_ok_as}
 use Rattle.xs_log.proofs.after_crash.restart.Goals as goal
 
 pub returns-clause-content : goal.returns-clause-content
-returns-clause-content g c = c.recover.ensures.content
+returns-clause-content g c = if_ok_as c.recover.result _ _ (λ found ok.
+    (ok.0, ok.1 ∙ ap (λ k. contents_after k ok.0) c.new.ensures.keyspace, ok.2 ∙ ap (λ m. moment_after m ok.0) c.new.ensures.last)) c.recover.ensures.content
 
 pub returns-clause-read : goal.returns-clause-read
 returns-clause-read g c = λ broken number pending tape events kept file log leaves readers last.
@@ -27,6 +28,6 @@ returns-clause-read g c = λ broken number pending tape events kept file log lea
     let got = ok.2 log.last log.sure file left last in
     let same = given-unique rest 1 c.args.closed.items tape.closed log.before ok.0 readers are ok.1 in
     let more = take got.0 log.last in
-    restarts_so broken number pending tape events kept file log got.0 _ _ _ _ got.1 got.2 (subst (λ n. HasEvents n (before_zero file) more found.1.whole found.1.part) count_is got.3) (got.4 ∙ ap (λ es. contents_after empty (es ++ more)) same)
-    (got.5 ∙ ap (λ es. moment_after None (es ++ more)) same)) c.recover.ensures.ok)
+    restarts_so broken number pending tape events kept file log got.0 _ _ _ _ got.1 got.2 (subst (λ n. HasEvents n (before_zero file) more found.1.whole found.1.part) count_is got.3) (got.4 ∙ ap (λ k. contents_after k (ok.0 ++ more)) c.new.ensures.keyspace ∙ ap (λ es. contents_after empty (es ++ more)) same)
+    (got.5 ∙ ap (λ m. moment_after m (ok.0 ++ more)) c.new.ensures.last ∙ ap (λ es. moment_after None (es ++ more)) same)) c.recover.ensures.ok)
     (c.recover.ensures.err log.before log.last log.sure file (given rest 1 c.args.closed.items tape.closed log.before readers are) left last)

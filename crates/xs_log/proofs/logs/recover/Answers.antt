@@ -1,5 +1,4 @@
-use Rattle.std.proofs.Common.{◌++◌, None, take, sym, ap, ◌∙◌, subst}
-use Rattle.xs_bytes.specs.SortedMap.{empty}
+use Rattle.std.proofs.Common.{◌++◌, take, sym, ap, ◌∙◌, subst}
 use Rattle.xs_tape.specs.Crash.{before_zero}
 use Rattle.xs_replay.specs.Log.{HasEvents}
 use Rattle.xs_replay.specs.After.{contents_after, moment_after}
@@ -19,8 +18,8 @@ returns-in-Ok-clause-ok g c =
             found.1,
             found.2,
             subst (λ n. HasEvents n (before_zero left) more c.in-Ok.extent.whole c.in-Ok.extent.part) before.1 found.3,
-            found.4 ∙ ap (λ k. contents_after k more) (before.0.2 ∙ ap (λ k. contents_after k before.0.0) c.new-recovered.ensures.keyspace) ∙ sym (contents-joined empty before.0.0 more),
-            found.5 ∙ ap (λ m. moment_after m more) (before.0.3 ∙ ap (λ m. moment_after m before.0.0) c.new-recovered.ensures.last) ∙ sym (moments-joined None before.0.0 more),
+            found.4 ∙ ap (λ k. contents_after k more) before.0.2 ∙ sym (contents-joined c.args.start.keyspace before.0.0 more),
+            found.5 ∙ ap (λ m. moment_after m more) before.0.3 ∙ sym (moments-joined c.args.start.last before.0.0 more),
           ),
     )
 
@@ -33,6 +32,6 @@ returns-in-Ok-clause-content g c =
     let before = c.in_ok-number.ensures.ok in
     let more = c.in-Ok.ensures.content in (
       before.0.0 ++ more.0,
-      more.1 ∙ ap (λ k. contents_after k more.0) (before.0.2 ∙ ap (λ k. contents_after k before.0.0) c.new-recovered.ensures.keyspace) ∙ sym (contents-joined empty before.0.0 more.0),
-      more.2 ∙ ap (λ m. moment_after m more.0) (before.0.3 ∙ ap (λ m. moment_after m before.0.0) c.new-recovered.ensures.last) ∙ sym (moments-joined None before.0.0 more.0),
+      more.1 ∙ ap (λ k. contents_after k more.0) before.0.2 ∙ sym (contents-joined c.args.start.keyspace before.0.0 more.0),
+      more.2 ∙ ap (λ m. moment_after m more.0) before.0.3 ∙ sym (moments-joined c.args.start.last before.0.0 more.0),
     )
