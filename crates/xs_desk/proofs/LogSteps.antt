@@ -31,9 +31,9 @@ words-of found words command is has = subst (λ o. HasWords o command) is has
 
 module _ {L : Type 0} (has : L → List Event → ℕ → Type 0) where
   -- an event was appended to the log, or a part of it if that failed
-  pub appended : (log after : L) (failed fails : Bool) (start : Content) (event : Event) → failed ≡ false → ((events : List Event) (kept : ℕ) → has log events kept → has after (events ++ event ∷ []) kept)
-      → (events : List Event) (kept : ℕ) → HasEvents has log failed start events kept → HasEvents has after fails start (events ++ event ∷ []) kept
-  appended log after failed fails start event sound grows events kept h =
+  pub appended : (log after : L) (failed fails : Bool) (first start : Content) (event : Event) → failed ≡ false → ((events : List Event) (kept : ℕ) → has log events kept → has after (events ++ event ∷ []) kept)
+      → (events : List Event) (kept : ℕ) → HasEvents has log failed first start events kept → HasEvents has after fails first start (events ++ event ∷ []) kept
+  appended log after failed fails first start event sound grows events kept h =
       let all : events ≡ h.noted = h.events_are ∙ ap (λ es. h.noted ++ es) (h.none_lost sound) ∙ append-nil h.noted in
       record {
         past = h.past;

@@ -1,28 +1,31 @@
 -- The journal of a desk with a log.
 use Rattle.std.specs.Prelude.{◌≡◌, ◌+◌, ℕ, Bool, false, List, [], ◌++◌, length}
-use Rattle.xs_bytes.specs.SortedMap.{empty}
 use Rattle.xs_keys.specs.Event.{Event}
 use Rattle.xs_keys.specs.Content.{Content}
 use Rattle.xs_replay.specs.After.{contents_after}
 
--- a log, whether nothing more may be asked of it, and what the keyspace held before the first event of this life
+-- a log, whether nothing more may be asked of it, what the keyspace held before the first event of the log, and before
+-- the first one of this life
 pub record Logging (L : Type 0) : Type 0 where
   pub log : L
   pub failed : Bool
+  pub first : Content
   pub start : Content
 
 module _ {L : Type 0} (has : L → List Event → ℕ → Type 0) where
-  -- a log whose events have left this content, and are kept
-  pub record ContinuesLog (log : L) (content : Content) : Type 0 where
+  -- a log whose events go on from a first content, have left this one, and are kept
+  pub record ContinuesLog (first : Content) (log : L) (content : Content) : Type 0 where
     pub past : List Event
-    pub content_is : content ≡ contents_after empty past
+    pub content_is : content ≡ contents_after first past
     pub log_has : has log past (length past)
 
-  -- Behind a past, which has left what the keyspace held at the start, a log has the first of these events: all of them,
-  -- unless it has failed.
-  pub record HasEvents (log : L) (failed : Bool) (start : Content) (events : List Event) (kept : ℕ) : Type 0 where
+  -- Behind a past, which goes on from a first content and has left what the keyspace held at the start, a log has the
+  -- first of these events: all of them, unless it has failed.
+  pub record HasEvents
+      (log : L) (failed : Bool) (first start : Content) (events : List Event) (kept : ℕ)
+      : Type 0 where
     pub past : List Event
-    pub start_is : start ≡ contents_after empty past
+    pub start_is : start ≡ contents_after first past
     pub noted : List Event
     pub lost : List Event
     pub events_are : events ≡ noted ++ lost

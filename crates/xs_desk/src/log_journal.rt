@@ -22,6 +22,7 @@ pub struct LogJournal<L: EventLog + Drop> {
     // How many events were noted, and how many of them are kept.
     noted: u64,
     kept: u64,
+    first: Snapshot<Keyspace>,
     start: Snapshot<Keyspace>,
 }
 
@@ -32,7 +33,7 @@ impl<L: EventLog + Drop> Model for LogJournal<L> {
 
     ghost use Rattle.std.specs.Prelude.{◌≡◌, false};
 
-    ghost view = { λ j. record { log = j.log; failed = j.failed; start = j.start.value } };
+    ghost view = { λ j. record { log = j.log; failed = j.failed; first = j.first.value; start = j.start.value } };
 
     ghost invariant = { λ j. j.failed ≡ false → L.broken j.log ≡ false };
 }
@@ -66,11 +67,17 @@ impl<L: EventLog + Drop> LogJournal<L> {
     ghost use Rattle.xs_desk.specs.Calls.{IsFormed};
     ghost use Rattle.xs_desk.specs.LogJournals.{HasEvents, ContinuesLog};
 
-    /// A journal that goes on behind the events of a log, of which the keyspace has the content.
-    pub(crate) fn new(log: L, keyspace: &Keyspace) -> LogJournal<L>
-        requires log { ContinuesLog L.has log keyspace.now }
+    /// A journal that goes on behind the events of a log, which have left what the keyspace has. Before them it was the
+    /// first one.
+    pub(crate) fn new(
+        log: L,
+        first: Snapshot<Keyspace>,
+        keyspace: &Keyspace,
+    ) -> LogJournal<L>
+        requires log { ContinuesLog L.has first.value log keyspace.now }
         requires sound { L.broken log ≡ false }
-        ensures has { HasEvents L.has result.log result.failed result.start [] 0 }
+        ensures has { HasEvents L.has result.log result.failed result.first result.start [] 0 }
+        ensures first { result.first ≡ first.value }
         ensures start { result.start ≡ keyspace.now }
     {
         LogJournal {
@@ -78,6 +85,7 @@ impl<L: EventLog + Drop> LogJournal<L> {
             failed: false,
             noted: 0,
             kept: 0,
+            first,
             start: Snapshot::of(keyspace),
         }
     }
@@ -96,8 +104,8 @@ impl<L: EventLog + Drop> LogJournal<L> {
     fn append(&mut self, moment: Moment, call: &Call)
         requires { IsFormed call.now }
         ensures noted { (events : List Event) (kept : ℕ) →
-            HasEvents L.has self.old.log self.old.failed self.old.start events kept →
-            HasEvents L.has self.new.log self.new.failed self.new.start
+            HasEvents L.has self.old.log self.old.failed self.old.first self.old.start events kept →
+            HasEvents L.has self.new.log self.new.failed self.new.first self.new.start
             (events ++ (moment, call.now.command) ∷ []) kept }
         ensures start { self.new.start ≡ self.old.start }
     {
@@ -119,7 +127,7 @@ impl<L: EventLog + Drop> LogJournal<L> {
 impl<L: EventLog + Drop> Journal for LogJournal<L> {
     ghost use Rattle.xs_desk.specs.LogJournals.{HasEvents};
 
-    ghost has = { λ journal. HasEvents L.has journal.log journal.failed journal.start };
+    ghost has = { λ journal. HasEvents L.has journal.log journal.failed journal.first journal.start };
 
     ghost start = { λ journal. journal.start };
 

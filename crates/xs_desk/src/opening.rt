@@ -20,6 +20,7 @@ use crate::wait_marks::WaitMarks;
 use crate::waiting::Backoff;
 use rtrb::RingBuffer;
 use std::alloc::{AllocError, Global};
+use std::snapshot::Snapshot;
 use std::sync::Arc;
 use std::sync::atomic::AtomicBool;
 use thiserror::Error;
@@ -198,8 +199,8 @@ pub fn wide_desk(alloc: Global, n: usize, depth: usize) -> Result<(Keeper, Vec<C
     open_desk(alloc, n, depth, Keyspace::new(alloc), NoJournal).map_err(|_| DeskError::Memory)
 }
 
-/// A desk as `wide_desk` makes it, over a keyspace that has the content of a log's events. Its keeper notes in the log
-/// what it applies, and hands an answer out once the log keeps that.
+/// A desk as `wide_desk` makes it, over a keyspace that has what a log's events have left. Before them it was the first
+/// one. Its keeper notes in the log what it applies, and hands an answer out once the log keeps that.
 ///
 /// # Errors
 /// A `DeskError`.
@@ -208,15 +209,16 @@ pub fn logged_desk<L: EventLog + Drop>(
     n: usize,
     depth: usize,
     keyspace: Keyspace,
+    first: Snapshot<Keyspace>,
     log: L,
 ) -> Result<(Keeper<LogJournal<L>>, Vec<Client>), DeskError>
-    requires log { ContinuesLog L.has log keyspace }
+    requires log { ContinuesLog L.has first.value log keyspace }
     requires sound { L.broken log ≡ false }
     ensures new { IfOk result (λ r. AreNew 0 depth r.0.lanes r.1.items × (length r.0.lanes ≡ n)
         × (r.0.keyspace ≡ keyspace) × (r.0.place ≡ 0) × (r.0.start ≡ keyspace)) }
     ensures cause { MatchResult result (λ _. IsLaneCount 1024 n × IsDepth depth) (IsDeskError 1024 n depth) }
 {
     check_counts(MOST_LANES, n, depth)?;
-    let journal = LogJournal::new(log, &keyspace);
+    let journal = LogJournal::new(log, first, &keyspace);
     open_desk(alloc, n, depth, keyspace, journal).map_err(|_| DeskError::Memory)
 }

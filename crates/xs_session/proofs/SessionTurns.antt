@@ -1,5 +1,5 @@
 -- How a session goes on.
-use Rattle.std.proofs.Common.{◌≡◌, ℕ, ◌<◌, ◌≤◌, Bool, true, false, not, ◌||◌, if◌then◌else◌, List, [], ◌∷◌, ◌++◌, length, drop, map, Option, Some, None}
+use Rattle.std.proofs.Common.{◌≡◌, ℕ, ◌<◌, ◌≤◌, Bool, true, false, not, ◌||◌, List, [], ◌∷◌, ◌++◌, length, drop, map, Option, Some, None}
 use Rattle.std.proofs.Common.{Ok, Err, sym, ap, ◌∙◌, subst, refl, append_assoc, arith, inl, inr, length-append}
 use Rattle.std.proofs.lemmas.List.{append-nil}
 use Rattle.std.proofs.lemmas.Grind.{flat_map-append}
@@ -38,6 +38,11 @@ use Rattle.xs_session.specs.Session.{texts, refusal, IsFault, IsWrong, Goes, IsF
 use Rattle.xs_session.proofs.OpenCommands.{open-free, open-more, open-same}
 use Rattle.xs_session.proofs.Answering.{IsAsking, taken-more, taken-same, taken-runs, asked-more, asked-same, answers-ask, answers-say, answers-got, open-fits, closed-fits}
 use Rattle.xs_session.proofs.Placing.{begun-open, begun-fill, begun-more}
+
+-- a command, if it is asked
+abbrev pub asked_if : Bool → Command → List Command
+asked_if true command = command ∷ []
+asked_if false command = []
 
 same-bytes : (held : Held) (a b : List ℕ) → held ≡ Ok a → held ≡ Ok b → a ≡ b
 same-bytes held a b x y = cc
@@ -485,7 +490,7 @@ module _ (manner : Manner) (read : List ℕ) (asked : List Command) (got : List 
   -- the call of the request at the front is asked, or has to wait
   pub session-asked : (old new : Session) (command : Command) (one : Taken) (place : Place) (goes : Bool) (words : List (List ℕ)) → IsAsking one command place → old.ended ≡ None → old.alone ≡ false → words ≡ front_of old.requests → released_of old.standing.transaction ≡ [] → 0 < length words
       → IsTaken manner old.standing words one old.standing → new.owed ≡ old.owed → AsksOrWaits old command place goes new → SessionIsAfter manner read asked got sent old
-      → SessionIsAfter manner read (asked ++ (if goes then command ∷ [] else [])) got sent new
+      → SessionIsAfter manner read (asked ++ asked_if goes command) got sent new
   session-asked old new command one place true words asking going several are nothing some is owed asks s =
       let after = turn-asks manner old.standing read asked got sent old.standing old.ended new.ended old.requests new.requests old.places new.places (bytes_left old.owed) words one command place asking going s.0 are asks.skips nothing some is asks.places asks.ended in
       let waiting = open-more new.alone (length got) asked command s.0.fits (subst (λ (b : Bool). MayBeOpen b (drop (length got) asked)) several s.1) asks.alone

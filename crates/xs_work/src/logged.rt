@@ -8,6 +8,7 @@ use crate::gate::Gate;
 use crate::mode::Mode;
 use crate::started::{StartedThreads, WorkerPool, make_pool, start_threads};
 use std::alloc::Global;
+use std::snapshot::Snapshot;
 use std::sync::Wait;
 use std::thread::Threads;
 use xs_desk::{Journal, Keeper, logged_desk};
@@ -50,8 +51,8 @@ fn run_to_end_of_keeper<
     if all { Some(keeper) } else { None }
 }
 
-/// Serves the connections of 1 to 1024 gates as `work_with` does, over a keyspace that has the content of a log's
-/// events. An answer is handed out once the log keeps what it tells. It ends when the log fails, or no gate gives a
+/// Serves the connections of 1 to 1024 gates as `work_with` does, over a keyspace that has what a log's events have left.
+/// Before them it was the first one. An answer is handed out once the log keeps what it tells. It ends when the log fails, or no gate gives a
 /// further connection, and says why.
 pub fn work_logged<
     L: EventLog + Send + Drop + 'static,
@@ -67,13 +68,14 @@ pub fn work_logged<
     clock: C,
     mode: M,
     keyspace: Keyspace,
+    first: Snapshot<Keyspace>,
     log: L,
 ) -> LoggedEnd
-    requires log { ContinuesLog L.has log keyspace }
+    requires log { ContinuesLog L.has first.value log keyspace }
     requires sound { L.broken log ≡ false }
     ensures { IsLoggedEnd 1024 (length gates.items) depth result }
 {
-    let (keeper, clients) = match logged_desk(alloc, gates.len(), depth, keyspace, log) {
+    let (keeper, clients) = match logged_desk(alloc, gates.len(), depth, keyspace, first, log) {
         Ok(made) => made,
         Err(fault) => return LoggedEnd::Work(WorkFault::Desk(fault)),
     };

@@ -3,6 +3,7 @@ use super::counting_log::{CountingLog, Counts};
 use super::steps::Step::{Asks, Settled, Told, ToldNothing, Turn};
 use super::steps::{SmallDesk, play, submits};
 use std::alloc::Global;
+use std::snapshot::Snapshot;
 use std::sync::Arc;
 use std::sync::atomic::AtomicU64;
 use std::test::Fail;
@@ -28,7 +29,9 @@ fn new_logged(alloc: Global, depth: usize, calls: u64) -> Result<(LoggedDesk, Ar
         counts: Arc::try_clone(&counts)?,
         broken: false,
     };
-    let (keeper, clients) = logged_desk(alloc, 2, depth, Keyspace::new(alloc), log)?;
+    let keyspace = Keyspace::new(alloc);
+    let first = Snapshot::of(&keyspace);
+    let (keeper, clients) = logged_desk(alloc, 2, depth, keyspace, first, log)?;
     let desk = SmallDesk {
         alloc,
         keeper,

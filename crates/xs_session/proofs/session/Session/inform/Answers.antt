@@ -8,8 +8,8 @@ use Rattle.xs_session.specs.Session.{SessionIsAfter, AsksOrWaits}
 use Rattle.xs_session.proofs.SessionTurns.{session-asked, session-says}
 use Rattle.xs_session.proofs.session.Session.inform.Goals as goal
 
-pub returns-in-Ok-then-take_call-clause-turns : goal.returns-in-Ok-then-take_call-clause-turns
-returns-in-Ok-then-take_call-clause-turns g c = λ read asked got sent s.
+pub returns-then-take_call-clause-turns : goal.returns-then-take_call-clause-turns
+returns-then-take_call-clause-turns g c = λ read asked got sent s.
     let manner = c.args.manner.now in
     let words = c.front-words.result in
     let now = c.take_info.new.standing in
@@ -25,8 +25,8 @@ returns-in-Ok-then-take_call-clause-turns g c = λ read asked got sent s.
     (subst (λ goes. AsksOrWaits session command place goes c.take_call.new.self) c.if-take_call.true c.take_call.ensures.asks)
     (subst (λ (o : Standing). SessionIsAfter manner read asked got sent (record c.args.self.now { standing = o })) (sym taken.1) s)
 
-pub returns-in-Ok-not-take_call-clause-turns : goal.returns-in-Ok-not-take_call-clause-turns
-returns-in-Ok-not-take_call-clause-turns g c = λ read asked got sent s.
+pub returns-else-take_call-clause-turns : goal.returns-else-take_call-clause-turns
+returns-else-take_call-clause-turns g c = λ read asked got sent s.
     let manner = c.args.manner.now in
     let words = c.front-words.result in
     let now = c.take_info.new.standing in

@@ -20,8 +20,8 @@ returns-then-is_empty-clause-turns g c = λ read asked got sent s.
       open-same session.alone (length got) asked s.1,
     )
 
-pub returns-in-Asks-then-take_call-clause-turns : goal.returns-in-Asks-then-take_call-clause-turns
-returns-in-Asks-then-take_call-clause-turns g c = λ read asked got sent s.
+pub returns-then-take_call-clause-turns : goal.returns-then-take_call-clause-turns
+returns-then-take_call-clause-turns g c = λ read asked got sent s.
     let manner = c.args.manner.now in
     let words = c.front-words.result in
     let now = c.take_request-taken.new.standing in
@@ -36,8 +36,8 @@ returns-in-Asks-then-take_call-clause-turns g c = λ read asked got sent s.
     (subst (λ goes. AsksOrWaits session command Awaits goes c.take_call.new.self) c.if-take_call.true c.take_call.ensures.asks)
     (subst (λ (o : Standing). SessionIsAfter manner read asked got sent (record c.args.self.now { reserve = c.take_request-taken.new.reserve; standing = o })) (sym taken.3) s)
 
-pub returns-in-Asks-not-take_call-clause-turns : goal.returns-in-Asks-not-take_call-clause-turns
-returns-in-Asks-not-take_call-clause-turns g c = λ read asked got sent s.
+pub returns-else-take_call-clause-turns : goal.returns-else-take_call-clause-turns
+returns-else-take_call-clause-turns g c = λ read asked got sent s.
     let manner = c.args.manner.now in
     let words = c.front-words.result in
     let now = c.take_request-taken.new.standing in
