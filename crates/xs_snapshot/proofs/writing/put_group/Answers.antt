@@ -1,6 +1,5 @@
 use Rattle.std.proofs.Common.{◌∷◌, [], ◌++◌, subst}
 use Rattle.std.proofs.lemmas.Result.{on_ok_weaker}
-use Rattle.xs_log.specs.declared.snapshot_output.WriteFault.TheVariants.{TooLong}
 use Rattle.xs_replay.specs.Pieces.{of_group}
 use Rattle.xs_snapshot.specs.Writing.{pieces_of_rows, pieces_of_consumers, HasPutMore}
 use Rattle.xs_snapshot.proofs.Putting.{one_put, both_put, rest_can}
