@@ -14,7 +14,7 @@ from waiting import add
 
 # Enough for the clients of a queue, and some that look.
 WORKERS = 12
-TOLD = r"xs_server: log (.*): (\d+) records?, (\d+) bytes? of an unfinished record dropped\n"
+TOLD = r"xs_server: log (.*): (?:snapshot-\d+, )?(\d+) records?, (\d+) bytes? of an unfinished record dropped\n"
 # What it says meanwhile, if it reads for long.
 PROGRESS = r"xs_server: log (.*): (\d+) bytes read\n"
 # A log that another program made, and one record more.

@@ -1,7 +1,7 @@
 //! Why a folder of logs isn't opened.
 use std::io::ErrorKind;
 use thiserror::Error;
-use xs_log::LogsFault;
+use xs_log::{LogsFault, SnapshotFault, WriteFault};
 
 /// Why a folder of logs isn't opened. The text is to stand behind the folder's name and a colon.
 #[derive(Clone, Copy, Debug, PartialEq, Eq, Error)]
@@ -27,9 +27,12 @@ pub enum FolderFault {
     /// Another server has its lock.
     #[error("another server uses it")]
     InUse,
-    /// There is something else of the lock's name.
-    #[error("lock is no file")]
-    NoLockFile,
+    /// Somebody else makes a snapshot.
+    #[error("it is being compacted")]
+    Compacting,
+    /// There is something else of a lock's name.
+    #[error("{0} is no file")]
+    NoLockFile(&'static str),
     /// There is a log with a greater number.
     #[error("log-{0} is missing")]
     Missing(u64),
@@ -45,6 +48,15 @@ pub enum FolderFault {
     /// What a log has isn't what was written.
     #[error("{0}")]
     Log(LogsFault),
+    /// A snapshot isn't read.
+    #[error("snapshot-{number} {fault}")]
+    Snapshot { number: u64, fault: SnapshotFault },
+    /// A snapshot isn't written.
+    #[error("snapshot-{number} {fault}")]
+    NewSnapshot { number: u64, fault: WriteFault },
+    /// The system refuses to make a snapshot's file, or to name it.
+    #[error("snapshot-{number} can't be made: {kind}")]
+    UnmadeSnapshot { number: u64, kind: ErrorKind },
     /// The log that is to be gone on with failed.
     #[error("log-{0} can't be written")]
     Broken(u64),

@@ -1,6 +1,6 @@
 //! The folder itself: it is made if it is missing, and locked.
 use crate::fault::FolderFault;
-use crate::names::{LOCK, path_in};
+use crate::names::{COMPACTING, LOCK, path_in};
 use std::alloc::Global;
 use std::fs::{self, File, OpenOptions, TryLockError};
 use std::io::ErrorKind;
@@ -62,29 +62,68 @@ pub fn is_no_file<R: Files>(rt: &R, path: &str) -> bool {
     }
 }
 
+/// Opens a file of a folder that is there to be locked. It is made if it is missing.
+fn open_lock<R: Files<File = File>>(
+    rt: &R,
+    alloc: Global,
+    folder: &str,
+    name: &'static str,
+) -> Result<File, FolderFault> {
+    let Ok(path) = path_in(alloc, folder, name) else {
+        return Err(FolderFault::Memory);
+    };
+    if is_no_file(rt, path.as_str()) {
+        return Err(FolderFault::NoLockFile(name));
+    }
+    match OpenOptions::new()
+        .append(true)
+        .create(true)
+        .open(rt, path.as_str())
+    {
+        Ok(file) => Ok(file),
+        Err(error) => Err(FolderFault::Unwritable(error.kind())),
+    }
+}
+
+/// Takes a lock unless somebody has it.
+fn try_lock(file: File, taken: FolderFault) -> Result<File, FolderFault> {
+    match file.try_lock() {
+        Ok(()) => Ok(file),
+        Err(TryLockError::WouldBlock) => Err(taken),
+        Err(TryLockError::Error(error)) => Err(FolderFault::Unwritable(error.kind())),
+    }
+}
+
 /// Takes the lock of a folder. The system gives it back when the file is closed.
 pub fn take_lock<R: Files<File = File>>(
     rt: &R,
     alloc: Global,
     folder: &str,
 ) -> Result<File, FolderFault> {
-    let Ok(path) = path_in(alloc, folder, LOCK) else {
-        return Err(FolderFault::Memory);
-    };
-    if is_no_file(rt, path.as_str()) {
-        return Err(FolderFault::NoLockFile);
-    }
-    let file = match OpenOptions::new()
-        .append(true)
-        .create(true)
-        .open(rt, path.as_str())
-    {
-        Ok(file) => file,
-        Err(error) => return Err(FolderFault::Unwritable(error.kind())),
-    };
-    match file.try_lock() {
+    try_lock(open_lock(rt, alloc, folder, LOCK)?, FolderFault::InUse)
+}
+
+/// Takes the lock of compaction, which removes files. It is given back as the lock of the folder is.
+pub fn take_compaction_lock<R: Files<File = File>>(
+    rt: &R,
+    alloc: Global,
+    folder: &str,
+) -> Result<File, FolderFault> {
+    try_lock(
+        open_lock(rt, alloc, folder, COMPACTING)?,
+        FolderFault::Compacting,
+    )
+}
+
+/// Waits until nobody compacts a folder, and keeps others from it until the file is closed.
+pub fn wait_for_compaction<R: Files<File = File>>(
+    rt: &R,
+    alloc: Global,
+    folder: &str,
+) -> Result<File, FolderFault> {
+    let file = open_lock(rt, alloc, folder, COMPACTING)?;
+    match file.lock() {
         Ok(()) => Ok(file),
-        Err(TryLockError::WouldBlock) => Err(FolderFault::InUse),
-        Err(TryLockError::Error(error)) => Err(FolderFault::Unwritable(error.kind())),
+        Err(error) => Err(FolderFault::Unwritable(error.kind())),
     }
 }

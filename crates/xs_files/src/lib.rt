@@ -1,17 +1,22 @@
 //! A folder of logs on a file system.
 #![tactic(auto)]
 
+pub mod compaction;
 pub mod fault;
+pub mod file_source;
 pub mod file_tape;
 pub mod folder;
 pub mod last_log;
 pub mod listing;
-pub mod log_file;
 pub mod names;
 pub mod opening;
 pub mod progress;
+pub mod recovery;
+pub mod removal;
+pub mod snapshot_file;
 pub mod syncing;
 
+pub use compaction::{Compaction, compact_folder};
 pub use fault::FolderFault;
 pub use file_tape::FileTape;
 pub use opening::{OpenedFolder, open_folder};

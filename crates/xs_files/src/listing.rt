@@ -1,52 +1,93 @@
-//! Which logs a folder has.
+//! Which logs and snapshots a folder has.
 use crate::fault::FolderFault;
-use crate::names::{log_path, number_in};
+use crate::names::{log_number, log_path, new_snapshot_number, snapshot_number};
 use std::alloc::Global;
 use std::fs::{self, File};
 use std::io::ErrorKind;
 use std::rt::Files;
 
-/// How many logs there are, and the greatest of their numbers.
+/// What a folder has. Each number is 0 if there is none.
 #[derive(Clone, Copy, Debug, PartialEq, Eq)]
-struct Numbers {
-    count: u64,
-    greatest: u64,
+pub struct Listing {
+    /// The number of the greatest snapshot: it stands for the logs below it.
+    pub snapshot: u64,
+    /// The number of the last log.
+    pub last: u64,
+    /// The least number of a log or of a snapshot.
+    pub least: u64,
+    /// The greatest number of a snapshot that isn't whole.
+    pub unfinished: u64,
 }
 
-impl Numbers {
-    /// With the log of this name, if it is one's.
-    fn with_name(self, name: &str) -> Numbers {
-        match number_in(name) {
-            Some(number) => Numbers {
-                count: self.count.saturating_add(1),
-                greatest: self.greatest.max(number),
+impl Listing {
+    /// Of an empty folder.
+    fn new() -> Listing {
+        Listing {
+            snapshot: 0,
+            last: 0,
+            least: 0,
+            unfinished: 0,
+        }
+    }
+
+    /// The number of the first log that is read.
+    pub fn first(&self) -> u64 {
+        self.snapshot.max(1)
+    }
+
+    /// With the file of this name, if it is a log's or a snapshot's.
+    fn with_name(self, name: &str) -> Listing {
+        if let Some(number) = log_number(name) {
+            return Listing {
+                last: self.last.max(number),
+                least: least_of(self.least, number),
+                ..self
+            };
+        }
+        if let Some(number) = snapshot_number(name) {
+            return Listing {
+                snapshot: self.snapshot.max(number),
+                least: least_of(self.least, number),
+                ..self
+            };
+        }
+        match new_snapshot_number(name) {
+            Some(number) => Listing {
+                unfinished: self.unfinished.max(number),
+                ..self
             },
             None => self,
         }
     }
 }
 
-/// The numbers of the logs in a folder. Names that are no text are no logs'.
-fn numbers_in<R: Files + AllocGlobal + Copy + Drop>(
+/// The lesser of two numbers, of which the first is 0 if there is none.
+fn least_of(least: u64, number: u64) -> u64 {
+    if least == 0 {
+        number
+    } else {
+        least.min(number)
+    }
+}
+
+/// What is in a folder. Names that are no text are no logs'.
+pub fn list<R: Files + AllocGlobal + Copy + Drop>(
     rt: &R,
     folder: &str,
-) -> Result<Numbers, FolderFault> {
-    let mut numbers = Numbers {
-        count: 0,
-        greatest: 0,
-    };
+) -> Result<Listing, FolderFault> {
+    let mut listing = Listing::new();
     let entries = match fs::read_dir(rt, folder) {
         Ok(entries) => entries,
         Err(error) => return Err(FolderFault::Unreadable(error.kind())),
     };
     for entry in entries {
         match entry {
-            Ok(entry) => numbers = numbers.with_name(entry.file_name()),
+            Ok(entry) => listing = listing.with_name(entry.file_name()),
             Err(error) if error.kind() == ErrorKind::InvalidFilename => {}
             Err(error) => return Err(FolderFault::Unreadable(error.kind())),
         }
     }
-    Ok(numbers)
+    Ok(listing)
 }
 
 /// Whether the log with a number is a file.
@@ -70,14 +111,14 @@ fn check_log<R: Files>(
     }
 }
 
-/// How many logs a folder has. Their numbers count up from one, and each is a file.
-pub fn count_logs<R: Files<File = File> + AllocGlobal + Copy + Drop>(
+/// What is in a folder. Its logs from the greatest snapshot on count up, and each is a file.
+pub fn list_whole<R: Files<File = File> + AllocGlobal + Copy + Drop>(
     rt: &R,
     folder: &str,
-) -> Result<u64, FolderFault> {
-    let numbers = numbers_in(rt, folder)?;
-    for before in 0..numbers.greatest {
+) -> Result<Listing, FolderFault> {
+    let listing = list(rt, folder)?;
+    for before in listing.first() - 1..listing.last.max(listing.snapshot) {
         check_log(rt, rt.alloc(), folder, before + 1)?;
     }
-    Ok(numbers.greatest)
+    Ok(listing)
 }

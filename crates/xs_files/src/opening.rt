@@ -1,18 +1,19 @@
 //! A folder of logs is opened, and what its logs leave is recovered.
-ghost use Rattle.std.specs.Prelude.{◌≡◌, List, false, length, IfOk};
+ghost use Rattle.std.specs.Prelude.{◌≡◌, ℕ, List, Option, false, length, IfOk};
 ghost use Rattle.xs_keys.specs.Event.{Event};
 ghost use Rattle.xs_replay.specs.After.{contents_after};
+ghost use Rattle.xs_files.specs.Start.{IsStart};
 
 use crate::fault::FolderFault;
 use crate::file_tape::{FileTape, make_log};
-use crate::folder::{make_if_missing, take_lock};
+use crate::folder::{make_if_missing, take_lock, wait_for_compaction};
 use crate::last_log::open_last;
-use crate::listing::count_logs;
-use crate::log_file::LogFile;
-use crate::names::log_path;
+use crate::listing::{Listing, list_whole};
 use crate::progress::Progress;
+use crate::recovery::{log_source, log_sources, read_start};
+use crate::removal::remove_unfinished;
 use crate::syncing::SyncPolicy;
-use std::alloc::{AllocError, Global};
+use std::alloc::Global;
 use std::fs::File;
 use std::rt::Files;
 use std::snapshot::Snapshot;
@@ -28,6 +29,8 @@ const FULL: u64 = 67_108_864;
 /// What a folder of logs gives.
 #[derive(Drop)]
 pub struct OpenedFolder<R: Files<File = File> + Copy + Drop> {
+    /// The number of the snapshot that was read, or 0.
+    pub snapshot: u64,
     /// The content before the first event of the logs that were read.
     pub first: Snapshot<Keyspace>,
     /// The content after the events of all logs.
@@ -42,40 +45,26 @@ pub struct OpenedFolder<R: Files<File = File> + Copy + Drop> {
     pub log: TapeLog<FileTape<R>>,
 }
 
-/// Reads the logs with the numbers from one to this one.
-fn read_logs<R: Files<File = File> + Copy + Drop>(
-    rt: &R,
-    alloc: Global,
-    folder: &str,
-    count: u64,
-    progress: &Arc<Progress>,
-) -> Result<(Vec<LogFile<R>>, LogFile<R>), AllocError> {
-    let mut closed = Vec::new(alloc);
-    for before in 1..count {
-        let path = log_path(alloc, folder, before)?;
-        closed.push(LogFile::new(rt, path, Arc::try_clone(progress)?))?;
-    }
-    let path = log_path(alloc, folder, count)?;
-    let last = LogFile::new(rt, path, Arc::try_clone(progress)?);
-    Ok((closed, last))
-}
-
 /// What the logs of a folder leave of what was there at the start.
 fn recover_logs<R: Files<File = File> + Copy + Drop>(
     rt: &R,
     alloc: Global,
     folder: &str,
-    count: u64,
+    listing: Listing,
     start: Recovered,
     progress: &Arc<Progress>,
 ) -> Result<(Recovered, Extent), FolderFault>
     ensures { IfOk result (λ found. (events : List Event)
         × (found.0.keyspace ≡ contents_after start.keyspace events)) }
 {
-    let Ok((closed, last)) = read_logs(rt, alloc, folder, count, progress) else {
+    let first = listing.first();
+    let Ok(closed) = log_sources(rt, alloc, folder, first, listing.last, progress) else {
         return Err(FolderFault::Memory);
     };
-    recover(alloc, 1, start, closed, last).map_err(FolderFault::Log)
+    let Ok(last) = log_source(rt, alloc, folder, listing.last, progress) else {
+        return Err(FolderFault::Memory);
+    };
+    recover(alloc, first, start, closed, last).map_err(FolderFault::Log)
 }
 
 /// The last log, to be gone on with.
@@ -110,6 +99,7 @@ fn begin_first<R: Files<File = File> + Copy + Drop>(
     lock: File,
     policy: SyncPolicy,
 ) -> Result<OpenedFolder<R>, FolderFault>
+    ensures start { IfOk result (λ opened. (moment : Option ℕ) × IsStart opened.first.value moment) }
     ensures content { IfOk result (λ opened. (events : List Event)
         × (opened.keyspace ≡ contents_after opened.first.value events)) }
     ensures sound { IfOk result (λ opened. ⟦<TapeLog<FileTape<R>> as EventLog>⟧.broken opened.log ≡ false) }
@@ -122,6 +112,7 @@ fn begin_first<R: Files<File = File> + Copy + Drop>(
     let log = go_on(rt, alloc, folder, lock, file, 1, 0, policy)?;
     let keyspace = Keyspace::new(alloc);
     Ok(OpenedFolder {
+        snapshot: 0,
         first: Snapshot::of(&keyspace),
         keyspace,
         last: None,
@@ -131,8 +122,9 @@ fn begin_first<R: Files<File = File> + Copy + Drop>(
     })
 }
 
-/// Opens a folder of logs, and locks it. It is made if only it is missing. Its logs are read, which the progress tells
-/// meanwhile, and what a crash has torn of the last one is cut.
+/// Opens a folder of logs, and locks it. It is made if only it is missing. Its greatest snapshot is read, and the logs
+/// behind it, which the progress tells meanwhile, and what a crash has torn of the last one is cut. If the folder is
+/// being compacted, this waits for that.
 ///
 /// # Errors
 /// A `FolderFault`, and no byte of a log was changed but behind the whole records of the last one.
@@ -142,6 +134,7 @@ pub fn open_folder<R: Files<File = File> + AllocGlobal + Copy + Drop>(
     policy: SyncPolicy,
     progress: &Arc<Progress>,
 ) -> Result<OpenedFolder<R>, FolderFault>
+    ensures start { IfOk result (λ opened. (moment : Option ℕ) × IsStart opened.first.value moment) }
     ensures content { IfOk result (λ opened. (events : List Event)
         × (opened.keyspace ≡ contents_after opened.first.value events)) }
     ensures sound { IfOk result (λ opened. ⟦<TapeLog<FileTape<R>> as EventLog>⟧.broken opened.log ≡ false) }
@@ -151,21 +144,25 @@ pub fn open_folder<R: Files<File = File> + AllocGlobal + Copy + Drop>(
     let alloc = rt.alloc();
     make_if_missing(rt, folder)?;
     let lock = take_lock(rt, alloc, folder)?;
-    let count = count_logs(rt, folder)?;
-    if count == 0 {
+    let _compaction = wait_for_compaction(rt, alloc, folder)?;
+    let listing = list_whole(rt, folder)?;
+    remove_unfinished(rt, alloc, folder, &listing);
+    if listing.last == 0 {
         return begin_first(rt, alloc, folder, lock, policy);
     }
-    let start = Recovered::new(alloc);
+    let start = read_start(rt, alloc, folder, listing.snapshot, progress)?;
     let first = Snapshot::of(&start.keyspace);
-    let (recovered, extent) = recover_logs(rt, alloc, folder, count, start, progress)?;
-    let file = open_last(rt, alloc, folder, count, extent.whole)?;
-    let log = go_on(rt, alloc, folder, lock, file, count, extent.whole, policy)?;
+    let (recovered, extent) = recover_logs(rt, alloc, folder, listing, start, progress)?;
+    let number = listing.last;
+    let file = open_last(rt, alloc, folder, number, extent.whole)?;
+    let log = go_on(rt, alloc, folder, lock, file, number, extent.whole, policy)?;
     let Recovered {
         keyspace,
         last,
         records,
     } = recovered;
     Ok(OpenedFolder {
+        snapshot: listing.snapshot,
         first,
         keyspace,
         last,

@@ -63,6 +63,8 @@ pub enum Asked {
     Serve(ServeOptions),
     /// To serve connections up to a signal.
     Run(RunOptions),
+    /// To compact this folder of logs.
+    Compact(String),
     /// A text of help, or the version, which is printed.
     Text,
     /// Nothing that the program does. The text that says so is printed.
@@ -79,6 +81,9 @@ const ABOUT_SCRIPT: &str =
 const ABOUT_SERVE: &str = "Serves so many connections on a port of 127.0.0.1, and ends";
 
 const ABOUT_RUN: &str = "Serves connections until it is stopped; XREADGROUP with BLOCK waits";
+
+const ABOUT_COMPACT: &str =
+    "Makes a snapshot of the closed logs of a folder, which a server may be using, and removes them";
 
 const NO_ADDRESS: &str = "error: the value of --bind is no IPv4 or IPv6 address\n";
 
@@ -217,6 +222,17 @@ fn run_command<'a>(alloc: Global) -> Result<Command<'a>, AllocError> {
         .arg(sync)
 }
 
+/// The command `compact`.
+fn compact_command<'a>(alloc: Global) -> Result<Command<'a>, AllocError> {
+    let folder = Arg::new(alloc, "folder")
+        .value_name("FOLDER")
+        .required(true)
+        .help("The folder that run --log keeps its log in");
+    Command::new(alloc, "compact")
+        .about(ABOUT_COMPACT)
+        .arg(folder)
+}
+
 /// The program with all its commands.
 fn whole_program<'a>(alloc: Global) -> Result<Command<'a>, AllocError> {
     Command::new(alloc, "xs_server")
@@ -224,6 +240,7 @@ fn whole_program<'a>(alloc: Global) -> Result<Command<'a>, AllocError> {
         .version(VERSION)
         .subcommand_required(true)
         .subcommand(run_command(alloc)?)?
+        .subcommand(compact_command(alloc)?)?
         .subcommand(serve_command(alloc)?)?
         .subcommand(Command::new(alloc, "script").about(ABOUT_SCRIPT))
 }
@@ -331,6 +348,7 @@ fn options_of(matches: &ArgMatches) -> Option<ServeOptions>
 enum Others {
     Serve(ServeOptions),
     Run(RunOptions),
+    Compact(String),
     /// Nothing, and this is why.
     Refused(&'static str),
     Nothing,
@@ -343,6 +361,12 @@ fn parse_others<S: AsStr>(alloc: Global, words: &[S]) -> Result<Others, Error> {
     if let Some(found) = matches.subcommand_matches("serve") {
         return Ok(match options_of(found) {
             Some(options) => Others::Serve(options),
+            None => Others::Nothing,
+        });
+    }
+    if let Some(found) = matches.subcommand_matches("compact") {
+        return Ok(match found.get_str("folder") {
+            Some(folder) => Others::Compact(String::from_str(alloc, folder)?),
             None => Others::Nothing,
         });
     }
@@ -392,6 +416,7 @@ fn read_others(rt: &HostRuntime, words: &[String]) -> Asked
     let error = match parse_with_help(rt.alloc(), words) {
         Ok(Others::Serve(options)) => return Asked::Serve(options),
         Ok(Others::Run(options)) => return Asked::Run(options),
+        Ok(Others::Compact(folder)) => return Asked::Compact(folder),
         Ok(Others::Refused(text)) => {
             let _ = rt.eprint(&text);
             return Asked::Nothing;

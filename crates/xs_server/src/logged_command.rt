@@ -28,7 +28,7 @@ use xs_work::{Gate, LoggedEnd, Mode, work_logged};
 const ROUND: u64 = 32;
 
 /// Says why a folder isn't opened. It gives the status of the program.
-fn report_folder<E: Sink>(alloc: Global, folder: &str, fault: FolderFault, errors: &mut E) -> u8
+pub fn report_folder<E: Sink>(alloc: Global, folder: &str, fault: FolderFault, errors: &mut E) -> u8
     ensures { result ≡ 1 }
 {
     match format!(in alloc; "xs_server: {folder}: {fault}\n") {
@@ -37,10 +37,22 @@ fn report_folder<E: Sink>(alloc: Global, folder: &str, fault: FolderFault, error
     }
 }
 
-/// The line that says what was read of a log.
-fn log_line(alloc: Global, folder: &str, records: u64, dropped: u64) -> Result<String, AllocError> {
+/// The line that says what was read of a log: of the snapshot with a number, unless that is 0, and of the records behind
+/// it.
+fn log_line(
+    alloc: Global,
+    folder: &str,
+    snapshot: u64,
+    records: u64,
+    dropped: u64,
+) -> Result<String, AllocError> {
+    if snapshot == 0 {
+        return format!(in alloc;
+            "xs_server: log {folder}: {records} records, {dropped} bytes of an unfinished record dropped\n"
+        );
+    }
     format!(in alloc;
-        "xs_server: log {folder}: {records} records, {dropped} bytes of an unfinished record dropped\n"
+        "xs_server: log {folder}: snapshot-{snapshot}, {records} records, {dropped} bytes of an unfinished record dropped\n"
     )
 }
 
@@ -99,7 +111,13 @@ pub fn open_logs<
         Err(fault) => return Err(report_folder(alloc, folder, fault, errors)),
     };
     telling.end();
-    let Ok(line) = log_line(alloc, folder, opened.records, opened.dropped) else {
+    let Ok(line) = log_line(
+        alloc,
+        folder,
+        opened.snapshot,
+        opened.records,
+        opened.dropped,
+    ) else {
         return Err(report_memory(errors));
     };
     let _ = write_all(errors, line.as_bytes());
@@ -216,6 +234,7 @@ pub fn run_logged<
     let patience = patience.with_most_held_back(most_held_back(log.policy));
     let ready = Ready { gates, patience };
     let OpenedFolder {
+        snapshot: _,
         first,
         keyspace,
         last,

@@ -6,4 +6,5 @@ pub mod KeysSoFar
 pub mod PiecesInTurn
 pub mod PiecesAhead
 pub mod RestorableContents
+pub mod RestorableParts
 pub mod RestorableHistories

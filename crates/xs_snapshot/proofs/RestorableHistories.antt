@@ -21,6 +21,7 @@ use Rattle.xs_replay.proofs.InRange.{StreamFits, KeyFits, AllOf, AnyName, conten
 use Rattle.xs_snapshot.specs.NextPiece.{last_id}
 use Rattle.xs_snapshot.specs.Restorable.{IsRestorableStream, IsRestorableGroup, IsRestorableKey, IsRestorable}
 use Rattle.xs_snapshot.proofs.RestorableContents.{found-name}
+use Rattle.xs_snapshot.proofs.RestorableParts.{history-of-stream, group-restorable}
 
 -- events follow a history
 history-of : (content : Content) (past : History) (events : List Event) → IsContent content past → (later : History) × IsContent (contents_after content events) later
@@ -47,36 +48,19 @@ both-all P Q R f (x ∷ xs) all every = (f x all.0 every.0, both-all P Q R f xs 
 
 -- ---- streams
 
-not-below-zero : (id : Id) → IsId id → is_below id zero_id ≡ false
-not-below-zero id is = by (is_below id zero_id) refl where
-  by : (t : Bool) → is_below id zero_id ≡ t → t ≡ false
-  by true e = let less = rank-below id zero_id is.1 e in absurd (omega (arith, less))
-  by false e = refl
-
-last-up_to : (top id : Id) (ids : List Id) → is_below top id ≡ false → AllUpTo top ids → is_below top (last_of id ids) ≡ false
-last-up_to top id [] up all = up
-last-up_to top id (x ∷ xs) up all = last-up_to top x xs all.0 all.1
-
-history-is : (a : Bool) (n m : ℕ) → a ≡ false → n ≤ m → (not a && nat_le n m) ≡ true
-history-is a n m e le = rw e (grind (arith, nat_tests))
-
 stream-restorable : (stream : StreamState) → IsConsistentStream stream → StreamFits stream → IsRestorableStream stream
 stream-restorable stream is fits = record {
   above_zero = fits.above_zero;
   ascends = is.ascends;
-  history = history-is (is_below stream.top (last_id stream.entries)) stream.added (rank_of stream.top)
-      (last-up_to stream.top zero_id (ids_of stream.entries) (not-below-zero stream.top fits.top) is.up_to_top) fits.added;
+  history = history-of-stream stream fits.top is.up_to_top fits.added;
 }
 
 -- ---- groups and keys
 
-group-restorable : (e : Bytes × GroupState) → IsConsistentGroup e.1 → IsRestorableGroup e.1
-group-restorable e is = record { of_consumers = is.of_consumers; up_to_cursor = is.up_to_cursor }
-
 key-restorable : (e : Bytes × KeyState) → IsConsistentKey e.1 → AnyName e.0 × KeyFits e.1 → IsRestorableKey e.1
 key-restorable e is fits = record {
   stream = stream-restorable e.1.stream is.stream fits.1.stream;
-  groups = all-as (λ (g : Bytes × GroupState). IsConsistentGroup g.1) (λ g. IsRestorableGroup g.1) group-restorable e.1.groups.entries (all-values e.1.groups IsConsistentGroup is.groups);
+  groups = all-as (λ (g : Bytes × GroupState). IsConsistentGroup g.1) (λ g. IsRestorableGroup g.1) (λ g. group-restorable g.1) e.1.groups.entries (all-values e.1.groups IsConsistentGroup is.groups);
 }
 
 pub events-restorable : (events : List Event) → AllByRecursion EventFits events → IsRestorable (contents_after empty events)

@@ -1,5 +1,5 @@
 -- Which contents a snapshot gives back.
-use Rattle.std.specs.Prelude.{◌≡◌, true}
+use Rattle.std.specs.Prelude.{◌≡◌, ℕ, true, List}
 use Rattle.std.specs.List.{AllByRecursion}
 use Rattle.xs_stream.specs.Id.{zero_id}
 use Rattle.xs_stream.specs.StreamContent.{StreamState, ids_of, Ascends, AllAbove}
@@ -21,9 +21,12 @@ pub record IsRestorableGroup (group : GroupState) : Type 0 where
   pub of_consumers : IsNamed group.consumers group.rows
   pub up_to_cursor : IsUpTo group.cursor group.rows
 
+abbrev pub AreRestorableGroups : List (List ℕ × GroupState) → Type 0
+AreRestorableGroups groups = AllByRecursion (λ e. IsRestorableGroup e.1) groups
+
 pub record IsRestorableKey (key : KeyState) : Type 0 where
   pub stream : IsRestorableStream key.stream
-  pub groups : AllByRecursion (λ e. IsRestorableGroup e.1) key.groups.entries
+  pub groups : AreRestorableGroups key.groups.entries
 
 abbrev pub IsRestorable : Content → Type 0
 IsRestorable content = AllByRecursion (λ e. IsRestorableKey e.1) content.entries

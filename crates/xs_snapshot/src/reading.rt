@@ -55,6 +55,9 @@ pub fn read_snapshot<R: Source + Drop>(
     // All bytes of the source are a snapshot of what is given.
     ensures ok { (bytes : List ℕ) → known_by R.rest source ≡ Some bytes →
         IfOk result (λ read. IsSnapshotFile number bytes (record { content = read.0; moment = read.1 })) }
+    // So it is of a source that doesn't tell what it has: what was read is a snapshot.
+    ensures whole { IfOk result (λ read. (bytes : List ℕ)
+        × IsSnapshotFile number bytes (record { content = read.0; moment = read.1 })) }
     // A snapshot with this number is never refused if its content is restorable, unless memory, the source or a number
     // of 64 bits runs out.
     ensures err { (bytes : List ℕ) (state : ServerState) → known_by R.rest source ≡ Some bytes →

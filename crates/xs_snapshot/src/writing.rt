@@ -99,7 +99,7 @@ fn put_entries<T: Tape + Drop>(
     ensures device { result ≡ Err WriteFault.Device → writer.new.writing.broken ≡ true }
     ensures long { result ≡ Err WriteFault.TooLong →
         CanBePut writer.old.count (pieces_of_entries stream.now.entries) → ⊥ }
-    ensures restorable { IsRestorableStream (state_of stream.now) }
+    ensures restorable { OnOk result (IsRestorableStream (state_of stream.now)) }
 {
     for entry in stream.iter() {
         writer.put_entry(entry.id(), entry.fields())?;

@@ -42,6 +42,15 @@ returns-in_default-clause-ok g c = λ bytes known.
     let found : ServerState = record { content = c.in_ok-keyspace.keyspace; moment = moment } in
     file_is number bytes found (subst (λ ps. HasPieces number bytes moment ps) (sym c.in_ok-keyspace.ensures.ok) whole)
 
+pub returns-in_default-clause-whole : goal.returns-in_default-clause-whole
+returns-in_default-clause-whole g c =
+    let number = c.args.number in
+    let moment = c.in_ok-reader.moment in
+    let pieces = pieces_so_far c.loop-count.builder in
+    let read = rw c.in_default.is at (c.in_ok-piece.ensures.ok number (g.R.Source.rest c.args.source) moment pieces c.loop-count.invariant.0) in
+    let found : ServerState = record { content = c.in_ok-keyspace.keyspace; moment = moment } in
+    (read.0, file_is number read.0 found (subst (λ ps. HasPieces number read.0 moment ps) (sym c.in_ok-keyspace.ensures.ok) read.3))
+
 pub returns-in_err-put_next-clause-err : goal.returns-in_err-put_next-clause-err
 returns-in_err-put_next-clause-err g c = λ bytes state known is can.
     let number = c.args.number in

@@ -3,6 +3,8 @@ use Rattle.xs_log.specs.declared.snapshot_output.WriteFault.TheVariants.{TooLong
 use Rattle.xs_replay.specs.Pieces.{of_entry}
 use Rattle.xs_snapshot.specs.Writing.{pieces_of_entries}
 use Rattle.xs_snapshot.proofs.Putting.{entry_next, at_start, one_further, next_is_short, given_on}
+use Rattle.xs_stream.specs.StreamContent.{state_of}
+use Rattle.xs_snapshot.proofs.RestorableParts.{stream-kept}
 use Rattle.xs_snapshot.proofs.writing.put_entries.Goals as goal
 
 pub loop-entry-init : goal.loop-entry-init
@@ -23,3 +25,6 @@ returns-in_err-put_entry-clause-long g c = λ e can.
     let short = next_is_short c.args.writer.now c.loop-entry.writer (pieces_of_entries c.args.stream.now.entries) (of_entry c.id.result c.fields.result)
     (pieces_of_entries c.next.new.self) (pieces_of_entries c.loop-entry.entry-iterator) c.loop-entry.invariant next can in
     c.put_entry.ensures.long (given_on c.put_entry.result c.from_residual.result c.in_err-put_entry.field-0.0 TooLong c.in_err-put_entry.was c.from_residual.ensures.1 e) short.0 short.1
+
+pub returns-clause-restorable : goal.returns-clause-restorable
+returns-clause-restorable g c = stream-kept (state_of c.args.stream.now) c.iter-entry-items.ensures.valid c.iter-entry-items.ensures.few

@@ -4,6 +4,7 @@ use Rattle.xs_replay.specs.Pieces.{pieces_of_group}
 use Rattle.xs_snapshot.specs.Restorable.{AreRestorableGroups}
 use Rattle.xs_snapshot.specs.Writing.{pieces_of_groups}
 use Rattle.xs_snapshot.proofs.Putting.{IsHalfway, at_start, further, next_can, given_on}
+use Rattle.xs_snapshot.proofs.RestorableParts.{group-restorable}
 use Rattle.xs_snapshot.proofs.writing.put_groups.Goals as goal
 
 pub loop-name-init : goal.loop-name-init
@@ -21,7 +22,7 @@ loop-name-preserved g c =
     record {
       half = further c.args.writer.now c.loop-name.writer c.put_group.new.writer all (pieces_of_group (c.in-Some.name.now, c.in-Some.group.now)) (pieces_of_groups c.next.new.self)
           (subst (λ es. IsHalfway c.args.writer.now c.loop-name.writer all (pieces_of_groups es)) steps c.loop-name.invariant.half) c.in_ok-put_group.ensures.more;
-      restorable = λ rest. c.loop-name.invariant.restorable (subst AreRestorableGroups (sym steps) (c.in_ok-put_group.ensures.restorable, rest));
+      restorable = λ rest. c.loop-name.invariant.restorable (subst AreRestorableGroups (sym steps) (group-restorable c.in-Some.group.now c.in_ok-put_group.ensures.restorable, rest));
     }
 
 pub returns-in_err-put_group-clause-long : goal.returns-in_err-put_group-clause-long

@@ -1,4 +1,5 @@
-//! A log that is read. Its file is opened at the first read, so that not all logs of a folder are open at once.
+//! A log or a snapshot that is read. Its file is opened at the first read, so that not all files of a folder are open at
+//! once.
 ghost use Rattle.std.specs.Prelude.{◌≡◌, ◌≤◌, None, length, IfOk};
 
 use crate::progress::Progress;
@@ -9,9 +10,9 @@ use std::sync::Arc;
 use xs_devices::{Failed, Source};
 use xs_trace::Trace;
 
-/// A log's file.
+/// The file of a log, or of a snapshot.
 #[derive(Drop)]
-pub struct LogFile<R: Files<File = File> + Copy + Drop> {
+pub struct FileSource<R: Files<File = File> + Copy + Drop> {
     rt: R,
     path: String,
     progress: Arc<Progress>,
@@ -32,7 +33,7 @@ fn read_from(file: &mut File, into: &mut [u8]) -> Result<usize, Failed>
     }
 }
 
-impl<R: Files<File = File> + Copy + Drop> LogFile<R> {
+impl<R: Files<File = File> + Copy + Drop> FileSource<R> {
     /// The file with a path, which isn't opened yet.
     pub fn new(rt: &R, path: String, progress: Arc<Progress>) -> Self {
         Self {
@@ -82,7 +83,7 @@ impl<R: Files<File = File> + Copy + Drop> LogFile<R> {
     }
 }
 
-impl<R: Files<File = File> + Copy + Drop> Source for LogFile<R> {
+impl<R: Files<File = File> + Copy + Drop> Source for FileSource<R> {
     ghost rest = { λ s. record { known = None; passed = s.passed } };
 
     ghost calls = { λ s. s.calls };

@@ -1,0 +1,76 @@
+//! What the greatest snapshot of a folder has, and the logs behind it.
+ghost use Rattle.std.specs.Prelude.{IfOk};
+ghost use Rattle.xs_files.specs.Start.{IsStart};
+
+use crate::fault::FolderFault;
+use crate::file_source::FileSource;
+use crate::names::{log_path, snapshot_path};
+use crate::progress::Progress;
+use std::alloc::{AllocError, Global};
+use std::fs::File;
+use std::rt::Files;
+use std::sync::Arc;
+use xs_log::Recovered;
+use xs_snapshot::read_snapshot;
+
+/// What the snapshot with a number has, or nothing if the number is 0.
+pub fn read_start<R: Files<File = File> + Copy + Drop>(
+    rt: &R,
+    alloc: Global,
+    folder: &str,
+    number: u64,
+    progress: &Arc<Progress>,
+) -> Result<Recovered, FolderFault>
+    ensures { IfOk result (λ start. IsStart start.keyspace start.last) }
+{
+    if number == 0 {
+        return Ok(Recovered::new(alloc));
+    }
+    let Ok(source) = snapshot_source(rt, alloc, folder, number, progress) else {
+        return Err(FolderFault::Memory);
+    };
+    match read_snapshot(alloc, number, source) {
+        Ok((keyspace, last)) => Ok(Recovered::of_snapshot(keyspace, last)),
+        Err(fault) => Err(FolderFault::Snapshot { number, fault }),
+    }
+}
+
+/// The file of the snapshot with a number.
+fn snapshot_source<R: Files<File = File> + Copy + Drop>(
+    rt: &R,
+    alloc: Global,
+    folder: &str,
+    number: u64,
+    progress: &Arc<Progress>,
+) -> Result<FileSource<R>, AllocError> {
+    let path = snapshot_path(alloc, folder, number)?;
+    Ok(FileSource::new(rt, path, Arc::try_clone(progress)?))
+}
+
+/// The file of the log with a number.
+pub fn log_source<R: Files<File = File> + Copy + Drop>(
+    rt: &R,
+    alloc: Global,
+    folder: &str,
+    number: u64,
+    progress: &Arc<Progress>,
+) -> Result<FileSource<R>, AllocError> {
+    let path = log_path(alloc, folder, number)?;
+    Ok(FileSource::new(rt, path, Arc::try_clone(progress)?))
+}
+
+/// The files of the logs from a number on, up to another one, which isn't among them.
+pub fn log_sources<R: Files<File = File> + Copy + Drop>(
+    rt: &R,
+    alloc: Global,
+    folder: &str,
+    first: u64,
+    end: u64,
+    progress: &Arc<Progress>,
+) -> Result<Vec<FileSource<R>>, AllocError> {
+    let mut sources = Vec::new(alloc);
+    for number in first..end {
+        sources.push(log_source(rt, alloc, folder, number, progress)?)?;
+    }
+    Ok(sources)
+}
