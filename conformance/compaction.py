@@ -141,19 +141,39 @@ def what_a_crash_leaves(program):
             assert names(copy) == {"snapshot-4", "log-4"}, names(copy)
 
 
+def backed_up(program):
+    """What is copied as docs/CLIENTS.md says, while a client adds, is a folder that a start reads: it has all that was
+    answered before."""
+    with new_folder() as folder, logged(program, folder) as server, raw(server.port) as one:
+        copy = folder + " copy"
+        os.mkdir(copy)
+        for place in range(1, 51):
+            say(one, f"XADD s {place}-0 f v", bulk(f"{place}-0"))
+        for place in range(51, 551):
+            one.sendall(served.asking(f"XADD s {place}-0 f v"))
+        subprocess.run(["flock", f"{folder}/compacting", "sh", "-c", "cp $0/log-* $0/snapshot-* \"$1\"", folder, copy],
+                       stderr=subprocess.DEVNULL)
+        with logged(program, copy) as other, Connection(other.port) as two:
+            assert 50 <= two.ask("XLEN", "s") <= 550
+
+
 def killed(program):
     """Compactions are killed at any moment; each time a start has all."""
-    count, aside = 30_000, random.Random(7)
+    count, aside = 12_000, random.Random(7)
     events = [(BEGAN + place, [b"XADD", b"s", b"%d-0" % place, b"f", b"v" * 200]) for place in range(1, count + 1)]
     cut = count - 100
     with new_folder() as folder:
         logs.write_logs(folder, *in_logs(events, [cut // 2, cut]))
-        ends = []
+        copy, ends = folder + " copy", []
+        shutil.copytree(folder, copy)
+        began = time.monotonic()
+        compact(program, copy)
+        takes = time.monotonic() - began
+        shutil.rmtree(copy)
         for _ in range(20):
-            copy = folder + " copy"
             shutil.copytree(folder, copy)
             child = subprocess.Popen([program, "compact", copy], stderr=subprocess.DEVNULL)
-            time.sleep(aside.uniform(0, 0.3))
+            time.sleep(aside.uniform(0, takes))
             child.kill()
             ends.append((child.wait() == -signal.SIGKILL, sorted(names(copy))))
             with logged(program, copy) as server:
@@ -201,7 +221,8 @@ def refused(program):
         logs.write_file(path, right)
         os.remove(logs.path_of(folder, 3))
         is_refusal(start(program, folder), folder, "log-3 is missing")
-        is_refusal(compact(program, folder + " of another name"), folder + " of another name", "it can't be written: .*")
+        nowhere = folder + " of another name"
+        is_refusal(compact(program, nowhere), nowhere, "it can't be written: .*")
 
 
 def waits_for_its_end(program):
@@ -220,4 +241,4 @@ def waits_for_its_end(program):
             child.wait()
 
 
-CASES = (contents_at_random, beside_a_server, what_a_crash_leaves, killed, refused, waits_for_its_end)
+CASES = (contents_at_random, beside_a_server, what_a_crash_leaves, backed_up, killed, refused, waits_for_its_end)

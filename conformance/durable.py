@@ -6,9 +6,9 @@
 It is killed while clients that keep books are at work (conformance/books.py), N times, 30 if not given; behind half of
 the kills the log loses what no sync had kept, as if the machine had stopped. conformance/kept.py has the cases of syncs
 and of room, bad_folders.py those of folders and logs that aren't right, crash_points.py cuts a log at each record,
-refused_logs.py refuses memory, and kept_log.py starts it on a log that an earlier program made. It needs Python's
-standard library, and a C compiler for the libraries that are loaded into it. What is at random has a fixed seed. The
-last line is 'N passed, M failed'; the status is 1 if M > 0.
+compaction.py has those of snapshots, refused_logs.py refuses memory, and kept_log.py starts it on a log that an earlier
+program made. It needs Python's standard library, and a C compiler for the libraries that are loaded into it. What is at
+random has a fixed seed. The last line is 'N passed, M failed'; the status is 1 if M > 0.
 """
 import argparse
 import os
@@ -23,6 +23,7 @@ import time
 import bad_folders
 import clock_steps
 import commands
+import compaction
 import crash_points
 import full_queue
 import kept
@@ -387,8 +388,8 @@ def tells_how_far_it_is(program):
                 assert not told if environment is None else told and 0 < told[0] < size, server.said
 
 
-CASES = (*bad_folders.CASES, what_a_log_has, tells_how_far_it_is, *kept_log.CASES, stopped_and_started, at_random,
-         the_clock_is_late, waits_across_a_restart, *crash_points.CASES, *refused_logs.CASES, *kept.CASES, two_logs,
+CASES = (*bad_folders.CASES, *compaction.CASES, what_a_log_has, tells_how_far_it_is, *kept_log.CASES,
+         stopped_and_started, at_random, the_clock_is_late, waits_across_a_restart, *crash_points.CASES, *refused_logs.CASES, *kept.CASES, two_logs,
          many_logs, full_memory, killed_without_syncs, killed_between_syncs)
 
 
