@@ -6,6 +6,7 @@ use Rattle.std.proofs.lemmas.Result.{err_from_is_err_and}
 use Rattle.std.specs.List.{AllByRecursion, flat_map}
 use Rattle.xs_stream.specs.declared.id.Id.{Id}
 use Rattle.xs_stream.specs.declared.field.Field.{Field}
+use Rattle.xs_group.specs.declared.delivery.Touch.{Touch}
 use Rattle.xs_group.specs.GroupState.{RowState}
 use Rattle.xs_keys.specs.Content.{KeyState}
 use Rattle.xs_keys.specs.KeysRoom.{KeyInMemory, key_state_of}
@@ -127,10 +128,10 @@ AreRestorableKeys keys = AllByRecursion (λ e. IsRestorableKey e.1) (states_of k
 pub consumer_next : (here rest : List (List ℕ × ℕ)) (name text : List ℕ) (seen : ℕ) → here ≡ (name, seen) ∷ rest → text ≡ name → pieces_of_consumers here ≡ of_consumer text seen ∷ pieces_of_consumers rest
 consumer_next here rest name text seen is same = cc
 
-pub row_next : (here rest : List (Id × RowState)) (e : Id × RowState) (id : Id) (consumer : List ℕ) (time count : ℕ) → here ≡ e ∷ rest → id ≡ e.0 → consumer ≡ e.1.consumer → time ≡ e.1.time → count ≡ e.1.count
-    → pieces_of_rows here ≡ of_row id (record { consumer = consumer; time = time; count = count }) ∷ pieces_of_rows rest
-row_next here rest e id consumer time count is i c t n =
-    ap pieces_of_rows is ∙ (λ j. of_row (sym i j) (record { consumer = sym c j; time = sym t j; count = sym n j }) ∷ pieces_of_rows rest)
+pub row_next : (here rest : List (Id × RowState)) (e : Id × RowState) (id : Id) (consumer : List ℕ) (touch : Touch) → here ≡ e ∷ rest → id ≡ e.0 → consumer ≡ e.1.consumer
+    → touch ≡ record { time = e.1.time; count = e.1.count } → pieces_of_rows here ≡ of_row id (record { consumer = consumer; time = touch.time; count = touch.count }) ∷ pieces_of_rows rest
+row_next here rest e id consumer touch is i c t =
+    ap pieces_of_rows is ∙ (λ j. of_row (sym i j) (record { consumer = sym c j; time = (sym t j).time; count = (sym t j).count }) ∷ pieces_of_rows rest)
 
 pub entry_next : (here rest : List (Id × List Field)) (e : Id × List Field) (id : Id) (fields : List Field) → here ≡ e ∷ rest → id ≡ e.0 → fields ≡ e.1 → pieces_of_entries here ≡ of_entry id fields ∷ pieces_of_entries rest
 entry_next here rest e id fields is i f = cc

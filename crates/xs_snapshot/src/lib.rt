@@ -3,4 +3,4 @@
 
 pub mod writing;
 
-pub use writing::write_snapshot;
+pub use writing::{complete_snapshot, put_keys, write_snapshot};
