@@ -20,7 +20,7 @@ use Rattle.xs_snapshot.specs.Writing.{pieces_of_rows, pieces_of_consumers, piece
 -- ---- what is put
 
 -- nothing
-pub none_put : (writer : SnapshotWriting) → writer.writing.broken ≡ false → HasPutMore writer writer []
+none_put : (writer : SnapshotWriting) → writer.writing.broken ≡ false → HasPutMore writer writer []
 none_put writer sound = record {
   puts = λ number closed moment pieces has. subst (HasPut number closed writer moment) (sym (append-nil pieces)) has;
   count_is = omega arith;
@@ -53,7 +53,7 @@ all-rest P [] ys all = all
 all-rest P (x ∷ xs) ys all = all-rest P xs ys all.1
 
 -- the first of these
-pub first_can : (before : ℕ) (first rest : List Piece) → CanBePut before (first ++ rest) → CanBePut before first
+first_can : (before : ℕ) (first rest : List Piece) → CanBePut before (first ++ rest) → CanBePut before first
 first_can before first rest can =
     record { short = all-first (λ piece. AreShort (values_of piece)) first rest can.short; few = omega (arith, can.few, length-append first rest) }
 
@@ -79,9 +79,6 @@ further old now new all first ahead half more = record {
   all_are = append_assoc half.done first ahead ∙ half.all_are;
   has = both_put old now new half.done first half.has more;
 }
-
-pub at_end : (old now : SnapshotWriting) (all : List Piece) → IsHalfway old now all [] → HasPutMore old now all
-at_end old now all half = subst (HasPutMore old now) (sym (append-nil half.done) ∙ half.all_are) half.has
 
 -- the next ones can be put, if all can
 pub next_can : (old now : SnapshotWriting) (all first ahead : List Piece) → IsHalfway old now all (first ++ ahead) → CanBePut old.count all → CanBePut now.count first
