@@ -6,6 +6,7 @@ use Rattle.std.proofs.lemmas.Result.{err_from_is_err_and}
 use Rattle.std.specs.List.{AllByRecursion, flat_map}
 use Rattle.xs_stream.specs.declared.id.Id.{Id}
 use Rattle.xs_stream.specs.declared.field.Field.{Field}
+use Rattle.xs_group.specs.declared.delivery.Touch.{Touch}
 use Rattle.xs_group.specs.GroupState.{RowState}
 use Rattle.xs_keys.specs.Content.{KeyState}
 use Rattle.xs_keys.specs.KeysRoom.{KeyInMemory, key_state_of}
@@ -19,7 +20,7 @@ use Rattle.xs_snapshot.specs.Writing.{pieces_of_rows, pieces_of_consumers, piece
 -- ---- what is put
 
 -- nothing
-pub none_put : (writer : SnapshotWriting) → writer.writing.broken ≡ false → HasPutMore writer writer []
+none_put : (writer : SnapshotWriting) → writer.writing.broken ≡ false → HasPutMore writer writer []
 none_put writer sound = record {
   puts = λ number closed moment pieces has. subst (HasPut number closed writer moment) (sym (append-nil pieces)) has;
   count_is = omega arith;
@@ -52,7 +53,7 @@ all-rest P [] ys all = all
 all-rest P (x ∷ xs) ys all = all-rest P xs ys all.1
 
 -- the first of these
-pub first_can : (before : ℕ) (first rest : List Piece) → CanBePut before (first ++ rest) → CanBePut before first
+first_can : (before : ℕ) (first rest : List Piece) → CanBePut before (first ++ rest) → CanBePut before first
 first_can before first rest can =
     record { short = all-first (λ piece. AreShort (values_of piece)) first rest can.short; few = omega (arith, can.few, length-append first rest) }
 
@@ -78,9 +79,6 @@ further old now new all first ahead half more = record {
   all_are = append_assoc half.done first ahead ∙ half.all_are;
   has = both_put old now new half.done first half.has more;
 }
-
-pub at_end : (old now : SnapshotWriting) (all : List Piece) → IsHalfway old now all [] → HasPutMore old now all
-at_end old now all half = subst (HasPutMore old now) (sym (append-nil half.done) ∙ half.all_are) half.has
 
 -- the next ones can be put, if all can
 pub next_can : (old now : SnapshotWriting) (all first ahead : List Piece) → IsHalfway old now all (first ++ ahead) → CanBePut old.count all → CanBePut now.count first
@@ -127,10 +125,10 @@ AreRestorableKeys keys = AllByRecursion (λ e. IsRestorableKey e.1) (states_of k
 pub consumer_next : (here rest : List (List ℕ × ℕ)) (name text : List ℕ) (seen : ℕ) → here ≡ (name, seen) ∷ rest → text ≡ name → pieces_of_consumers here ≡ of_consumer text seen ∷ pieces_of_consumers rest
 consumer_next here rest name text seen is same = cc
 
-pub row_next : (here rest : List (Id × RowState)) (e : Id × RowState) (id : Id) (consumer : List ℕ) (time count : ℕ) → here ≡ e ∷ rest → id ≡ e.0 → consumer ≡ e.1.consumer → time ≡ e.1.time → count ≡ e.1.count
-    → pieces_of_rows here ≡ of_row id (record { consumer = consumer; time = time; count = count }) ∷ pieces_of_rows rest
-row_next here rest e id consumer time count is i c t n =
-    ap pieces_of_rows is ∙ (λ j. of_row (sym i j) (record { consumer = sym c j; time = sym t j; count = sym n j }) ∷ pieces_of_rows rest)
+pub row_next : (here rest : List (Id × RowState)) (e : Id × RowState) (id : Id) (consumer : List ℕ) (touch : Touch) → here ≡ e ∷ rest → id ≡ e.0 → consumer ≡ e.1.consumer
+    → touch ≡ record { time = e.1.time; count = e.1.count } → pieces_of_rows here ≡ of_row id (record { consumer = consumer; time = touch.time; count = touch.count }) ∷ pieces_of_rows rest
+row_next here rest e id consumer touch is i c t =
+    ap pieces_of_rows is ∙ (λ j. of_row (sym i j) (record { consumer = sym c j; time = (sym t j).time; count = (sym t j).count }) ∷ pieces_of_rows rest)
 
 pub entry_next : (here rest : List (Id × List Field)) (e : Id × List Field) (id : Id) (fields : List Field) → here ≡ e ∷ rest → id ≡ e.0 → fields ≡ e.1 → pieces_of_entries here ≡ of_entry id fields ∷ pieces_of_entries rest
 entry_next here rest e id fields is i f = cc

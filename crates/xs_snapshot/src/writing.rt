@@ -1,12 +1,12 @@
 //! Writes a snapshot of a keyspace: each key, then its entries and its groups, and behind each group its consumers and
 //! its pending rows. What is held is lent, so a walk takes no memory for it.
-ghost use Rattle.std.specs.Prelude.{◌≡◌, ℕ, List, false, true, Err, IfOk, OnOk};
+ghost use Rattle.std.specs.Prelude.{◌≡◌, ℕ, List, [], Option, false, true, Err, IfOk, OnOk};
 ghost use Rattle.xs_replay.specs.After.{ServerState};
 ghost use Rattle.xs_replay.specs.Pieces.{pieces_of_group, pieces_of_key, pieces_of};
 ghost use Rattle.xs_stream.specs.StreamContent.{state_of};
 ghost use Rattle.xs_group.specs.ConsistentGroup.{IsConsistentGroup};
 ghost use Rattle.xs_keys.specs.KeysRoom.{key_state_of};
-ghost use Rattle.xs_log.specs.SnapshotWriting.{IsEmptyFile};
+ghost use Rattle.xs_log.specs.SnapshotWriting.{IsEmptyFile, HasPut};
 ghost use Rattle.xs_snapshot.specs.Writing.{pieces_of_rows, pieces_of_consumers, pieces_of_entries, pieces_of_groups};
 ghost use Rattle.xs_snapshot.specs.Writing.{HasPutMore, CanBePut, KeepsSnapshot};
 ghost use Rattle.xs_snapshot.specs.Restorable.{IsRestorableStream, AreRestorableGroups, IsRestorableKey, IsRestorable};
@@ -154,6 +154,28 @@ pub fn put_keys<T: Tape + Drop>(
     Ok(())
 }
 
+/// Puts a keyspace behind the header of a snapshot, then the end, and has the tape keep all.
+///
+/// # Errors
+/// A `WriteFault`, as `put_keys` gives it. Nothing is said of what is kept then.
+pub fn complete_snapshot<T: Tape + Drop>(
+    writer: &mut SnapshotWriter<T>,
+    keyspace: &Keyspace,
+) -> Result<(), WriteFault>
+    requires { writer.old.writing.broken ≡ false }
+    ensures keeps { (number : ℕ) (closed : List (List ℕ)) (moment : Option ℕ) →
+        HasPut number closed writer.old moment [] → OnOk result (KeepsSnapshot number closed
+        writer.new.writing.holds (record { content = keyspace.now; moment = moment })) }
+    ensures sound { OnOk result (writer.new.writing.broken ≡ false) }
+    ensures device { result ≡ Err WriteFault.Device → writer.new.writing.broken ≡ true }
+    ensures long { result ≡ Err WriteFault.TooLong → CanBePut writer.old.count (pieces_of keyspace.now) → ⊥ }
+    // What is written can be put together again.
+    ensures restorable { OnOk result (IsRestorable keyspace.now) }
+{
+    put_keys(writer, keyspace)?;
+    writer.end()
+}
+
 /// Writes a snapshot of a keyspace to the last file of a tape, which is empty, has the tape keep it, and gives the tape
 /// back. The number is that of the log behind the snapshot, and the moment that of the last event before it, if there
 /// was one.
@@ -176,7 +198,6 @@ pub fn write_snapshot<T: Tape + Drop>(
     ensures restorable { OnOk result (IsRestorable keyspace.now) }
 {
     let mut writer = SnapshotWriter::begin(alloc, tape, number, moment)?;
-    put_keys(&mut writer, keyspace)?;
-    writer.end()?;
+    complete_snapshot(&mut writer, keyspace)?;
     Ok(writer.into_tape())
 }
