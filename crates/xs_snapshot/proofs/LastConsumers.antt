@@ -1,12 +1,12 @@
 -- A consumer behind the last one.
-use Rattle.std.proofs.Common.{◌≡◌, ℕ, ◌≤◌, Bool, true, false, not, ◌&&◌, List, [], ◌∷◌, ◌++◌, length, Option, Some, None, ap, refl, arith}
+use Rattle.std.proofs.Common.{◌≡◌, ℕ, true, false, List, [], ◌∷◌, ◌++◌, Some, None, refl, arith}
 use Rattle.std.proofs.Math.Dec.{T}
 use Rattle.std.specs.List.{list_all}
 use Rattle.std.specs.FinMap.Entries.{is_sorted}
 use Rattle.std.specs.Ordering.{nat_cmp}
 use Rattle.std.specs.Cmp.Lexicographic.{slice_cmp}
-use Rattle.xs_bytes.specs.SortedMap.{NameMap, empty, insert}
-use Rattle.xs_group.specs.GroupState.{Consumers, GroupState, has_name, with_consumer}
+use Rattle.xs_bytes.specs.SortedMap.{NameMap, empty}
+use Rattle.xs_group.specs.GroupState.{GroupState, has_name, with_consumer}
 use Rattle.xs_keys.specs.Event.{Bytes}
 use Rattle.xs_keys.specs.NextName.{is_name_before, is_past_names}
 use Rattle.xs_keys.proofs.LastNames.{name-trans, past-joined, rises, front, tail, none-past, name-behind}

@@ -1,8 +1,7 @@
 -- A piece behind those of a group, a key or a content.
-use Rattle.std.proofs.Common.{◌≡◌, ℕ, Bool, true, false, ◌&&◌, List, [], ◌∷◌, ◌++◌, map, length, Option, Some, None}
+use Rattle.std.proofs.Common.{◌≡◌, ℕ, List, [], ◌∷◌, ◌++◌, map, length, Option, Some, None}
 use Rattle.std.proofs.Common.{sym, ap, ◌∙◌, refl, arith, append_assoc, append-nil}
 use Rattle.std.proofs.lemmas.List.{map-append}
-use Rattle.std.specs.Prelude.{◌==◌}
 use Rattle.std.specs.List.{flat_map}
 use Rattle.std.proofs.lemmas.Grind.{flat_map-append}
 use Rattle.xs_bytes.specs.SortedMap.{NameMap, empty}
@@ -10,10 +9,10 @@ use Rattle.xs_stream.specs.declared.id.Id.{Id}
 use Rattle.xs_stream.specs.declared.field.Field.{Field}
 use Rattle.xs_stream.specs.StreamContent.{StreamState}
 use Rattle.xs_group.specs.GroupState.{GroupState, RowState, new_group}
-use Rattle.xs_keys.specs.Event.{Bytes, Entries, PendingEntries}
+use Rattle.xs_keys.specs.Event.{Bytes}
 use Rattle.xs_keys.specs.Content.{KeyState, Content}
 use Rattle.xs_replay.specs.Pieces.{Piece, of_key, of_entry, of_group, of_consumer, of_row, pieces_of_group, pieces_of_key, pieces_of}
-use Rattle.xs_snapshot.specs.Building.{pieces_if_there, KeySoFar, pieces_of_key_so_far, Building, pieces_so_far}
+use Rattle.xs_snapshot.specs.Building.{pieces_if_there, KeySoFar, pieces_of_key_so_far, pieces_so_far}
 
 -- one more behind two lists, of which the second is empty, or not
 behind_first : {A B : Type 0} (f : A → B) (xs : List A) (x : A) (ys : List B) → ys ≡ [] → map f (xs ++ x ∷ []) ++ ys ≡ (map f xs ++ ys) ++ f x ∷ []

@@ -1,10 +1,10 @@
 -- The pieces of a restorable content fit.
-use Rattle.std.proofs.Common.{◌≡◌, ◌⊎◌, inl, inr, ℕ, ◌≤◌, Bool, true, false, cond, not, ◌&&◌, List, [], ◌∷◌, ◌++◌, map, length, Option, Some, None, is_some, is_none}
+use Rattle.std.proofs.Common.{◌≡◌, ◌⊎◌, inl, inr, ℕ, Bool, true, false, not, ◌&&◌, List, [], ◌∷◌, ◌++◌, map, length, Option, Some, None, is_some, is_none}
 use Rattle.std.proofs.Common.{refl, sym, ap, ◌∙◌, subst, arith, append_assoc, append-nil, Ordering}
 use Rattle.std.specs.Prelude.{nat_le, ◌==◌, IfNone}
 use Rattle.std.specs.List.{flat_map, list_all, AllByRecursion}
 use Rattle.std.specs.Option.{option_map_or}
-use Rattle.std.specs.Ordering.{nat_cmp, is_lt, is_eq, ordering_reverse}
+use Rattle.std.specs.Ordering.{nat_cmp, is_lt, ordering_reverse}
 use Rattle.std.specs.Cmp.{IsTotalOrder}
 use Rattle.std.specs.Cmp.Lexicographic.{slice_cmp, nat_list_cmp_total}
 use Rattle.std.specs.FinMap.Entries.{find, is_sorted, below_all}
@@ -21,20 +21,19 @@ use Rattle.xs_stream.specs.Id.{id_cmp, is_below, zero_id}
 use Rattle.xs_stream.specs.StreamContent.{AllAbove, Ascends, ids_of}
 use Rattle.xs_stream.specs.ConsistentStream.{is_history_after}
 use Rattle.xs_group.specs.GroupState.{GroupState, RowState, Rows, Consumers, ids_total, last_of, has_name}
-use Rattle.xs_group.specs.ConsistentGroup.{IsUpTo}
-use Rattle.xs_group.specs.Indexes.{IsNamed, is_owner}
-use Rattle.xs_group.specs.NextRow.{is_past_rows, is_next_row}
+use Rattle.xs_group.specs.Indexes.{is_owner}
+use Rattle.xs_group.specs.NextRow.{is_next_row}
 use Rattle.xs_keys.specs.Event.{Bytes, Entries, PendingEntries}
 use Rattle.xs_keys.specs.Content.{KeyState, Content}
-use Rattle.xs_keys.specs.NextName.{is_name_before, is_past_names}
+use Rattle.xs_keys.specs.NextName.{is_past_names}
 use Rattle.xs_keys.proofs.NameMaps.{is_same_name-refl}
 use Rattle.xs_keys.proofs.LastNames.{front, tail}
 use Rattle.xs_replay.specs.Pieces.{Piece, of_key, of_entry, of_group, of_consumer, of_row, pieces_of_group, pieces_of_key, pieces_of}
-use Rattle.xs_snapshot.specs.Building.{pieces_if_there, KeySoFar, pieces_of_key_so_far, Building, pieces_so_far}
-use Rattle.xs_snapshot.specs.NextPiece.{last_id, is_next_consumer, is_next_entry, is_past_if_there, may_end, is_whole, may_follow, AreGroupsFirst, IsInOrder, AreFitting}
-use Rattle.xs_snapshot.specs.Restorable.{IsRestorableStream, IsRestorableGroup, IsRestorableKey, IsRestorable}
+use Rattle.xs_snapshot.specs.Building.{pieces_if_there, KeySoFar, pieces_of_key_so_far}
+use Rattle.xs_snapshot.specs.NextPiece.{last_id, is_next_consumer, is_past_if_there, may_end, is_whole, may_follow, AreGroupsFirst, IsInOrder, AreFitting}
+use Rattle.xs_snapshot.specs.Restorable.{IsRestorableGroup, IsRestorableKey, IsRestorable}
 use Rattle.xs_snapshot.proofs.PiecesAhead.{depth, is_up_to, deeper, entry_piece, consumer_piece, row_piece, MembersAhead, members_ahead, groups-up_to, GroupsAhead, groups_ahead}
-use Rattle.xs_snapshot.proofs.PiecesAhead.{EntriesAhead, entries_ahead, no-entries-left, keys-alone, KeysAhead, keys_ahead}
+use Rattle.xs_snapshot.proofs.PiecesAhead.{entries_ahead, no-entries-left, keys-alone, KeysAhead, keys_ahead}
 
 -- ---- what stands before an entry of a sorted list
 

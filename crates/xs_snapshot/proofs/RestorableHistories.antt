@@ -1,12 +1,12 @@
 -- What events leave is restorable.
-use Rattle.std.proofs.Common.{◌≡◌, ℕ, ◌≤◌, ◌<◌, ◌^◌, Bool, true, false, not, ◌&&◌, nat_le, List, [], ◌∷◌, ◌++◌, Some, refl, sym, ap, ◌∙◌, arith, append_assoc}
+use Rattle.std.proofs.Common.{◌≡◌, ℕ, ◌≤◌, Bool, true, false, not, ◌&&◌, nat_le, List, [], ◌∷◌, ◌++◌, Some, refl, sym, ◌∙◌, arith, append_assoc}
 use Rattle.std.specs.List.{AllByRecursion}
 use Rattle.std.proofs.lemmas.Bool.Decides.{nat_tests}
 use Rattle.xs_bytes.specs.SortedMap.{NameMap, get, empty}
 use Rattle.xs_stream.specs.declared.id.Id.{Id}
 use Rattle.xs_stream.specs.Id.{is_below, zero_id}
 use Rattle.xs_stream.specs.StreamContent.{StreamState, AllUpTo, ids_of}
-use Rattle.xs_stream.specs.ConsistentStream.{IsConsistentStream, IsId, rank_of, is_history_after}
+use Rattle.xs_stream.specs.ConsistentStream.{IsConsistentStream, IsId, rank_of}
 use Rattle.xs_stream.proofs.Past.{rank-below}
 use Rattle.xs_group.specs.GroupState.{GroupState, last_of}
 use Rattle.xs_group.specs.ConsistentGroup.{IsConsistentGroup}
@@ -17,7 +17,7 @@ use Rattle.xs_keys.proofs.Contents.{content-none, content-step}
 use Rattle.xs_keys.proofs.ConsistentContents.{content-consistent}
 use Rattle.xs_replay.specs.After.{after, contents_after}
 use Rattle.xs_replay.specs.Ranges.{EventFits}
-use Rattle.xs_replay.proofs.InRange.{StreamFits, KeyFits, AllOf, AnyName, contents-fit}
+use Rattle.xs_replay.proofs.InRange.{StreamFits, KeyFits, AnyName, contents-fit}
 use Rattle.xs_snapshot.specs.NextPiece.{last_id}
 use Rattle.xs_snapshot.specs.Restorable.{IsRestorableStream, IsRestorableGroup, IsRestorableKey, IsRestorable}
 use Rattle.xs_snapshot.proofs.RestorableContents.{found-name}

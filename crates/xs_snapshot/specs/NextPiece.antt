@@ -1,5 +1,5 @@
 -- Which piece may come next.
-use Rattle.std.specs.Prelude.{◌≡◌, ◌==◌, ℕ, Bool, true, false, ◌&&◌, List, [], ◌∷◌, ◌++◌, length, Option, Some, None}
+use Rattle.std.specs.Prelude.{◌≡◌, ◌==◌, Bool, true, false, ◌&&◌, List, [], ◌∷◌, ◌++◌, length, Option, Some, None}
 use Rattle.std.specs.Prelude.{is_none, IfNone, MatchOption}
 use Rattle.std.specs.Option.{option_map_or}
 use Rattle.xs_stream.specs.declared.id.Id.{Id}

@@ -1,5 +1,5 @@
 //! A group that is put together of its pieces.
-ghost use Rattle.std.specs.Prelude.{◌≡◌, ◌++◌, ◌∷◌, [], true, IfOk, OnErr, None};
+ghost use Rattle.std.specs.Prelude.{◌≡◌, ◌++◌, ◌∷◌, [], true, false, IfOk, OnErr, None};
 ghost use Rattle.xs_group.specs.GroupState.{new_group};
 ghost use Rattle.xs_group.specs.NextRow.{is_next_row};
 ghost use Rattle.xs_keys.specs.NextName.{is_past_names};
@@ -70,6 +70,7 @@ impl GroupBuilder {
         ensures next { IfOk result (λ put. put ≡ is_next_consumer name self.old.1) }
         ensures behind { IfOk result (λ put. put ≡ true → pieces_of_group self.new
             ≡ pieces_of_group self.old ++ of_consumer name moment ∷ []) }
+        ensures refused { IfOk result (λ put. put ≡ false → self.new ≡ self.old) }
         ensures err { OnErr result (self.new ≡ self.old) }
     {
         if self.group.count_pending() > 0 || !self.is_past(&name) {
@@ -93,6 +94,7 @@ impl GroupBuilder {
         ensures next { IfOk result (λ put. put ≡ is_next_row consumer.now id self.old.1) }
         ensures behind { IfOk result (λ put. put ≡ true → pieces_of_group self.new ≡ pieces_of_group self.old
             ++ of_row id (record { consumer = consumer.now; time = time; count = count }) ∷ []) }
+        ensures refused { IfOk result (λ put. put ≡ false → self.new ≡ self.old) }
         ensures err { OnErr result (self.new ≡ self.old) }
     {
         self.group.restore_row(alloc, id, consumer, time, count)

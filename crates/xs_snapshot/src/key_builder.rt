@@ -1,5 +1,5 @@
 //! A key that is put together of its pieces.
-ghost use Rattle.std.specs.Prelude.{◌≡◌, ◌++◌, ◌∷◌, [], true, None, is_some, IfOk, IfSome};
+ghost use Rattle.std.specs.Prelude.{◌≡◌, ◌++◌, ◌∷◌, [], true, None, false, is_some, IfOk, IfSome, OnErr};
 ghost use Rattle.std.specs.List.{flat_map};
 ghost use Rattle.xs_bytes.specs.SortedMap.{empty};
 ghost use Rattle.xs_keys.specs.KeysRoom.{key_state_of};
@@ -93,12 +93,14 @@ impl KeyBuilder {
         }
     }
 
-    /// Puts an entry behind the others, and says whether it did. It refuses an entry behind a group, and an id that
-    /// isn't above those of all entries.
+    /// Puts an entry behind the others, and says whether it did. It refuses, and changes nothing, an entry behind a
+    /// group, and an id that isn't above those of all entries.
     pub(crate) fn put_entry(&mut self, id: Id, fields: &[Field]) -> Result<bool, AllocError>
         ensures next { IfOk result (λ put. put ≡ is_next_entry id self.old) }
         ensures behind { IfOk result (λ put. put ≡ true → pieces_of_key_so_far self.new
             ≡ pieces_of_key_so_far self.old ++ of_entry id fields.now ∷ []) }
+        ensures refused { IfOk result (λ put. put ≡ false → self.new ≡ self.old) }
+        ensures err { OnErr result (self.new ≡ self.old) }
         ensures first { AreGroupsFirst self.new }
     {
         if self.group.is_some() || id <= self.stream.top() {

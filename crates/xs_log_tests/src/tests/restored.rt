@@ -76,7 +76,7 @@ fn the_reserve_has_room_for_the_greatest_entry_that_was_read(rt: HostRuntime) ->
     let mut other = Keyspace::new(alloc);
     assert_eq!(rt; other.greatest_reply(), 0);
     let reply = reply_to(alloc, &mut other, "XADD j 1-0 f v f w")?;
-    assert!(rt; reply.as_slice() == b"$3\r\n1-0\r\n");
+    assert!(rt; reply.as_slice() == "$3\r\n1-0\r\n".as_bytes());
     assert!(rt; other.greatest_reply() > 0);
     assert_eq!(rt; keyspace.greatest_reply(), other.greatest_reply());
     Ok(())

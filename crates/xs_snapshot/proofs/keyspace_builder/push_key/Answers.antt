@@ -1,11 +1,10 @@
-use Rattle.std.proofs.Common.{◌≡◌, List, ◌++◌, Some, ap, sym, ◌∙◌}
-use Rattle.std.specs.Prelude.{IfSome}
+use Rattle.std.proofs.Common.{◌≡◌, List, ◌++◌, ap, ◌∙◌}
 use Rattle.std.proofs.lemmas.Result.{IfOk-weaker}
 use Rattle.xs_keys.specs.Event.{Bytes}
 use Rattle.xs_keys.specs.Content.{KeyState}
 use Rattle.xs_keys.specs.KeysRoom.{key_state_of}
 use Rattle.xs_replay.specs.Pieces.{Piece, pieces_of_key, pieces_of}
-use Rattle.xs_snapshot.specs.Building.{pieces_if_there, pieces_of_key_so_far}
+use Rattle.xs_snapshot.specs.Building.{pieces_of_key_so_far}
 use Rattle.xs_snapshot.proofs.PiecesBehind.{one-more}
 use Rattle.xs_snapshot.proofs.keyspace_builder.push_key.Goals as goal
 

@@ -1,7 +1,7 @@
-use Rattle.std.proofs.Common.{◌≡◌, ℕ, List, [], ◌∷◌, ◌++◌, Some, sym, ap, ◌∙◌, subst, append_assoc, append-nil}
+use Rattle.std.proofs.Common.{[], ◌∷◌, ◌++◌, sym, ◌∙◌, subst, append_assoc}
 use Rattle.std.proofs.lemmas.Result.{err_from_is_err_and}
 use Rattle.xs_replay.specs.After.{ServerState}
-use Rattle.xs_replay.specs.Pieces.{Piece, pieces_of}
+use Rattle.xs_replay.specs.Pieces.{pieces_of}
 use Rattle.xs_log.specs.PieceOf.{piece_of}
 use Rattle.xs_log.specs.SnapshotPieces.{HasPieces}
 use Rattle.xs_log.specs.SnapshotReading.{HasRead}

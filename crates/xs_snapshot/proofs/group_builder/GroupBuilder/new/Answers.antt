@@ -1,5 +1,3 @@
-use Rattle.std.proofs.Common.{◌≡◌, None}
-use Rattle.xs_snapshot.specs.NextPiece.{last_name}
 use Rattle.xs_snapshot.proofs.LastConsumers.{no-last_name}
 use Rattle.xs_snapshot.proofs.group_builder.GroupBuilder.new.Goals as goal
 
