@@ -1,4 +1,6 @@
 //! Which logs and snapshots a folder has.
+ghost use Rattle.std.specs.Prelude.{◌<◌};
+
 use crate::fault::FolderFault;
 use crate::names::{log_number, log_path, new_snapshot_number, snapshot_number};
 use std::alloc::Global;
@@ -31,7 +33,9 @@ impl Listing {
     }
 
     /// The number of the first log that is read.
-    pub fn first(&self) -> u64 {
+    pub fn first(&self) -> u64
+        ensures { 0 < result }
+    {
         self.snapshot.max(1)
     }
 
