@@ -26,7 +26,7 @@ pub fn read_start<R: Files<File = File> + Copy + Drop>(
     if number == 0 {
         return Ok(Recovered::new(alloc));
     }
-    let Ok(source) = snapshot_source(rt, alloc, folder, number, progress) else {
+    let Ok(source) = source(rt, snapshot_path(alloc, folder, number), progress) else {
         return Err(FolderFault::Memory);
     };
     match read_snapshot(alloc, number, source) {
@@ -35,16 +35,13 @@ pub fn read_start<R: Files<File = File> + Copy + Drop>(
     }
 }
 
-/// The file of the snapshot with a number.
-fn snapshot_source<R: Files<File = File> + Copy + Drop>(
+/// The file of this path.
+fn source<R: Files<File = File> + Copy + Drop>(
     rt: &R,
-    alloc: Global,
-    folder: &str,
-    number: u64,
+    path: Result<String, AllocError>,
     progress: &Arc<Progress>,
 ) -> Result<FileSource<R>, AllocError> {
-    let path = snapshot_path(alloc, folder, number)?;
-    Ok(FileSource::new(rt, path, Arc::try_clone(progress)?))
+    Ok(FileSource::new(rt, path?, Arc::try_clone(progress)?))
 }
 
 /// The file of the log with a number.
@@ -55,8 +52,7 @@ pub fn log_source<R: Files<File = File> + Copy + Drop>(
     number: u64,
     progress: &Arc<Progress>,
 ) -> Result<FileSource<R>, AllocError> {
-    let path = log_path(alloc, folder, number)?;
-    Ok(FileSource::new(rt, path, Arc::try_clone(progress)?))
+    source(rt, log_path(alloc, folder, number), progress)
 }
 
 /// The files of the logs from a number on, up to another one, which isn't among them.

@@ -37,8 +37,15 @@ pub fn report_folder<E: Sink>(alloc: Global, folder: &str, fault: FolderFault, e
     }
 }
 
-/// The line that says what was read of a log: of the snapshot with a number, unless that is 0, and of the records behind
-/// it.
+/// The words that name the snapshot that was read, if its number isn't 0.
+fn snapshot_words(alloc: Global, snapshot: u64) -> Result<String, AllocError> {
+    if snapshot == 0 {
+        return Ok(String::new(alloc));
+    }
+    format!(in alloc; "snapshot-{snapshot}, ")
+}
+
+/// The line that says what was read of a log.
 fn log_line(
     alloc: Global,
     folder: &str,
@@ -46,13 +53,9 @@ fn log_line(
     records: u64,
     dropped: u64,
 ) -> Result<String, AllocError> {
-    if snapshot == 0 {
-        return format!(in alloc;
-            "xs_server: log {folder}: {records} records, {dropped} bytes of an unfinished record dropped\n"
-        );
-    }
+    let first = snapshot_words(alloc, snapshot)?;
     format!(in alloc;
-        "xs_server: log {folder}: snapshot-{snapshot}, {records} records, {dropped} bytes of an unfinished record dropped\n"
+        "xs_server: log {folder}: {first}{records} records, {dropped} bytes of an unfinished record dropped\n"
     )
 }
 
