@@ -169,7 +169,8 @@ impl Model for Store {
 
     ghost view = { λ s. s.keyspace };
 
-    ghost invariant = { λ s. ContinuesLog (⟦<TapeLog<FileTape<HostRuntime>> as EventLog>⟧.has) s.first.value s.log s.keyspace
+    ghost invariant = { λ s.
+        ContinuesLog (⟦<TapeLog<FileTape<HostRuntime>> as EventLog>⟧.has) s.first.value s.log s.keyspace
         × (⟦<TapeLog<FileTape<HostRuntime>> as EventLog>⟧.broken s.log ≡ false) };
 }
 
