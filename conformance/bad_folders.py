@@ -18,13 +18,14 @@ NOBODY = 65534
 
 
 def refused_as_it_is(program, folder, text, before=None):
-    """It is refused, and nothing is changed; an empty lock may be new."""
+    """It is refused, and nothing is changed; empty locks may be new."""
     above = os.path.dirname(folder)
     was = logs.contents(above)
     is_refusal(start(program, folder, before=before), folder, text)
     now = logs.contents(above)
-    if os.path.isdir(folder) and "lock" not in was[1]["log"][1] and now[1]["log"][1].get("lock", (0, 0))[1] == b"":
-        del now[1]["log"][1]["lock"]
+    for lock in ("lock", "compacting") if os.path.isdir(folder) else ():
+        if lock not in was[1]["log"][1] and now[1]["log"][1].get(lock, (0, 0))[1] == b"":
+            del now[1]["log"][1][lock]
     assert now == was, f"{text}: something was changed"
 
 
@@ -60,6 +61,8 @@ WRONG = [
     (folder_with(("log-1", link_to_nothing)), "log-1 is missing"),
     (folder_with(("lock", os.mkdir), ("log-1", GOOD)), "lock is no file"),
     (folder_with(("lock", os.mkfifo), ("log-1", GOOD)), "lock is no file"),
+    (folder_with(("compacting", os.mkfifo), ("log-1", GOOD)), "compacting is no file"),
+    (folder_with(("log-1", GOOD), ("snapshot-1", os.mkfifo)), "snapshot-1 is no file"),
     (folder_with(("log-1", b"what another program has written\n")), FOREIGN),
     (folder_with(("log-1", OTHERS)), FOREIGN),
     (folder_with(("log-1", b"x")), FOREIGN),
@@ -112,14 +115,16 @@ def no_access(program):
             print("passed over: another user can't run the program there", flush=True)
             return
         logs.write_logs(folder, GOOD)
-        lock, log = os.path.join(folder, "lock"), logs.path_of(folder, 1)
+        lock, compacting = os.path.join(folder, "lock"), os.path.join(folder, "compacting")
+        log = logs.path_of(folder, 1)
         logs.write_file(lock, b"")
-        for path in (folder, lock, log):
+        logs.write_file(compacting, b"")
+        for path in (folder, lock, compacting, log):
             if os.geteuid() == 0:
                 os.chown(path, NOBODY, NOBODY)
         for path, mode, text in ((folder, 0o000, r"it can't be (read|written)"), (folder, 0o300, "it can't be read"),
-                                 (lock, 0o400, "it can't be written"), (log, 0o000, "log-1 can't be read"),
-                                 (log, 0o400, "log-1 can't be written")):
+                                 (lock, 0o400, "it can't be written"), (compacting, 0o400, "it can't be written"),
+                                 (log, 0o000, "log-1 can't be read"), (log, 0o400, "log-1 can't be written")):
             whole, was = os.stat(path).st_mode, logs.contents(folder)
             os.chmod(path, mode)
             is_refusal(start(copy, folder, before=as_nobody), folder, f"{text}.*")

@@ -48,6 +48,9 @@ pub enum FolderFault {
     /// What a log has isn't what was written.
     #[error("{0}")]
     Log(LogsFault),
+    /// There is something else of the greatest snapshot's name.
+    #[error("snapshot-{0} is no file")]
+    NoSnapshotFile(u64),
     /// A snapshot isn't read.
     #[error("snapshot-{number} {fault}")]
     Snapshot { number: u64, fault: SnapshotFault },

@@ -2,7 +2,8 @@
 ghost use Rattle.std.specs.Prelude.{◌<◌};
 
 use crate::fault::FolderFault;
-use crate::names::{log_number, log_path, new_snapshot_number, snapshot_number};
+use crate::folder::is_no_file;
+use crate::names::{log_number, log_path, new_snapshot_number, snapshot_number, snapshot_path};
 use std::alloc::Global;
 use std::fs::{self, File};
 use std::io::ErrorKind;
@@ -115,12 +116,32 @@ fn check_log<R: Files>(
     }
 }
 
-/// What is in a folder. Its logs from the greatest snapshot on count up, and each is a file.
+/// Whether the snapshot with a number is a file, if there is one.
+fn check_snapshot<R: Files>(
+    rt: &R,
+    alloc: Global,
+    folder: &str,
+    number: u64,
+) -> Result<(), FolderFault> {
+    if number == 0 {
+        return Ok(());
+    }
+    let Ok(path) = snapshot_path(alloc, folder, number) else {
+        return Err(FolderFault::Memory);
+    };
+    if is_no_file(rt, path.as_str()) {
+        return Err(FolderFault::NoSnapshotFile(number));
+    }
+    Ok(())
+}
+
+/// What is in a folder. Its greatest snapshot is a file, and so are its logs from there on, which count up.
 pub fn list_whole<R: Files<File = File> + AllocGlobal + Copy + Drop>(
     rt: &R,
     folder: &str,
 ) -> Result<Listing, FolderFault> {
     let listing = list(rt, folder)?;
+    check_snapshot(rt, rt.alloc(), folder, listing.snapshot)?;
     for before in listing.first() - 1..listing.last.max(listing.snapshot) {
         check_log(rt, rt.alloc(), folder, before + 1)?;
     }
