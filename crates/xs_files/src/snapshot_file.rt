@@ -1,5 +1,5 @@
 //! The file of a new snapshot as a tape. That it is one is trusted: no contract can say what a file holds.
-ghost use Rattle.std.specs.Prelude.{◌≡◌, None, false};
+ghost use Rattle.std.specs.Prelude.{◌≡◌, None, false, IfOk};
 
 use std::fs::{File, OpenOptions};
 use std::io::{ErrorKind, Write};
@@ -16,7 +16,9 @@ pub struct SnapshotFile {
 
 impl SnapshotFile {
     /// Makes an empty file of this path, in the place of one that was left.
-    pub fn create<R: Files<File = File>>(rt: &R, path: &str) -> Result<Self, ErrorKind> {
+    pub fn create<R: Files<File = File>>(rt: &R, path: &str) -> Result<Self, ErrorKind>
+        ensures { IfOk result (λ made. ⟦<SnapshotFile as Tape>⟧.broken made ≡ false) }
+    {
         let made = OpenOptions::new()
             .write(true)
             .create(true)
