@@ -5,3 +5,4 @@ pub mod PiecesInTurn
 pub mod PiecesAhead
 pub mod RestorableContents
 pub mod RestorableHistories
+pub mod RestorableParts

@@ -2,3 +2,4 @@ pub mod Building
 pub mod NextPiece
 pub mod BuildingCodes
 pub mod Restorable
+pub mod SoFar
