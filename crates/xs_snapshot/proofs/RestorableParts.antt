@@ -1,10 +1,10 @@
 -- What is restorable stays so while it is put together.
-use Rattle.std.proofs.Common.{◌≡◌, ℕ, Bool, true, false, cond, not, ◌&&◌, List, [], ◌∷◌, ◌++◌, Option, Some, None, is_some, sym, ap, subst, ◌∙◌, refl, arith}
+use Rattle.std.proofs.Common.{◌≡◌, ℕ, Bool, true, false, cond, not, List, [], ◌∷◌, ◌++◌, Option, Some, is_some, sym, ap, subst, ◌∙◌, refl}
 use Rattle.std.specs.List.{AllByRecursion}
 use Rattle.std.proofs.lemmas.Bool.{false≢true}
 use Rattle.std.proofs.lemmas.List.{map-append}
 use Rattle.std.specs.Ordering.{eq_by_cmp}
-use Rattle.xs_bytes.specs.SortedMap.{NameMap, SortedMap, empty, get, has_key, insert, insert_by}
+use Rattle.xs_bytes.specs.SortedMap.{NameMap, get}
 use Rattle.xs_bytes.proofs.SortedMaps.{get-empty, get-insert_by}
 use Rattle.xs_stream.specs.declared.id.Id.{Id}
 use Rattle.xs_stream.specs.declared.field.Field.{Field}
@@ -12,7 +12,7 @@ use Rattle.xs_stream.specs.Id.{id_cmp, is_below, zero_id}
 use Rattle.xs_stream.specs.StreamContent.{AllAbove, AllUpTo, Ascends, ids_of}
 use Rattle.xs_stream.proofs.InOrder.{above-push, ascends-push}
 use Rattle.xs_stream.proofs.Order.{below-trans}
-use Rattle.xs_group.specs.GroupState.{GroupState, RowState, Rows, Consumers, ids_total, is_same_name, has_name, new_group, with_consumer, last_of}
+use Rattle.xs_group.specs.GroupState.{GroupState, RowState, ids_total, is_same_name, has_name, new_group, with_consumer, last_of}
 use Rattle.xs_group.specs.Indexes.{is_owner}
 use Rattle.xs_group.specs.NextRow.{is_next_row, with_row}
 use Rattle.xs_group.proofs.NextRows.{up_to-next}
