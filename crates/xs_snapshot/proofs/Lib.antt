@@ -6,5 +6,8 @@ pub mod KeysSoFar
 pub mod PiecesInTurn
 pub mod PiecesAhead
 pub mod RestorableContents
+pub mod KeptRestorable
 pub mod RestorableParts
 pub mod RestorableHistories
+pub mod KeptRestorable
+pub mod RestorableParts

@@ -21,7 +21,7 @@ use Rattle.xs_replay.proofs.InRange.{StreamFits, KeyFits, AnyName, contents-fit}
 use Rattle.xs_snapshot.specs.NextPiece.{last_id}
 use Rattle.xs_snapshot.specs.Restorable.{IsRestorableStream, IsRestorableGroup, IsRestorableKey, IsRestorable}
 use Rattle.xs_snapshot.proofs.RestorableContents.{found-name}
-use Rattle.xs_snapshot.proofs.RestorableParts.{history-of-stream, group-restorable}
+use Rattle.xs_snapshot.proofs.KeptRestorable.{history-of-stream, group-restorable}
 
 -- events follow a history
 history-of : (content : Content) (past : History) (events : List Event) → IsContent content past → (later : History) × IsContent (contents_after content events) later

@@ -3,3 +3,4 @@ pub mod NextPiece
 pub mod BuildingCodes
 pub mod Restorable
 pub mod Writing
+pub mod SoFar

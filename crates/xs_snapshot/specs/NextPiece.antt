@@ -4,7 +4,7 @@ use Rattle.std.specs.Prelude.{is_none, IfNone, MatchOption}
 use Rattle.std.specs.Option.{option_map_or}
 use Rattle.xs_stream.specs.declared.id.Id.{Id}
 use Rattle.xs_stream.specs.Id.{is_below, zero_id}
-use Rattle.xs_stream.specs.StreamContent.{StreamInMemory, ids_of}
+use Rattle.xs_stream.specs.StreamContent.{ids_of}
 use Rattle.xs_stream.specs.ConsistentStream.{is_history_after}
 use Rattle.xs_group.specs.GroupState.{GroupState, last_of}
 use Rattle.xs_group.specs.NextRow.{is_next_row}
@@ -75,9 +75,3 @@ pub record AreFitting (pieces : List Piece) : Type 0 where
   pub follows : (b : Building) (piece : Piece) (more : List Piece) → IsInOrder b →
       pieces ≡ pieces_so_far b ++ piece ∷ more → may_follow b piece ≡ true
   pub ends : (b : Building) → IsInOrder b → pieces ≡ pieces_so_far b → is_whole b ≡ true
-
--- inside of a key: the top of its stream is the id of the last entry, and other groups stand before the last one only
-pub record IsKeySoFar
-    (stream : StreamInMemory) (groups : NameMap GroupState) (group : Option (Bytes × GroupState)) : Type 0 where
-  pub top_is_last : stream.top ≡ last_id stream.entries
-  pub groups_are_first : IfNone group (groups.entries ≡ [])

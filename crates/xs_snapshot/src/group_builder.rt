@@ -5,6 +5,7 @@ ghost use Rattle.xs_group.specs.NextRow.{is_next_row};
 ghost use Rattle.xs_keys.specs.NextName.{is_past_names};
 ghost use Rattle.xs_replay.specs.Pieces.{of_consumer, of_row, pieces_of_group};
 ghost use Rattle.xs_snapshot.specs.NextPiece.{is_next_consumer};
+ghost use Rattle.xs_snapshot.specs.Restorable.{IsRestorableGroup};
 
 use std::alloc::{AllocError, Global};
 use std::marker::Model;
@@ -22,11 +23,10 @@ pub(crate) struct GroupBuilder {
 }
 
 impl Model for GroupBuilder {
-    ghost use Rattle.std.specs.Prelude.{◌≡◌};
     ghost use Rattle.xs_group.specs.GroupState.{GroupState};
     ghost use Rattle.xs_keys.specs.Event.{Bytes as Name};
     ghost use Rattle.xs_snapshot.specs.BuildingCodes.{coded_named_group};
-    ghost use Rattle.xs_snapshot.specs.NextPiece.{last_name};
+    ghost use Rattle.xs_snapshot.specs.SoFar.{IsGroupSoFar};
 
     ghost Value = { Name × GroupState };
 
@@ -34,7 +34,7 @@ impl Model for GroupBuilder {
 
     ghost view = { λ b. (b.name, b.group) };
 
-    ghost invariant = { λ b. b.last_consumer ≡ last_name b.group.consumers.entries };
+    ghost invariant = { λ b. IsGroupSoFar b.last_consumer b.group };
 }
 
 impl GroupBuilder {
@@ -102,7 +102,8 @@ impl GroupBuilder {
 
     /// Its name, and the group.
     pub(crate) fn into_parts(self) -> (Bytes, Group)
-        ensures { result ≡ self }
+        ensures value { result ≡ self }
+        ensures restorable { IsRestorableGroup self.1 }
     {
         let Self { name, group, .. } = self;
         (name, group)

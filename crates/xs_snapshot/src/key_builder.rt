@@ -7,6 +7,8 @@ ghost use Rattle.xs_replay.specs.Pieces.{of_entry, of_group, of_consumer, of_row
 ghost use Rattle.xs_snapshot.specs.Building.{pieces_if_there, pieces_of_key_so_far};
 ghost use Rattle.xs_snapshot.specs.NextPiece.{is_next_entry, has_next_consumer, has_next_row, is_past_if_there};
 ghost use Rattle.xs_snapshot.specs.NextPiece.{may_end, AreGroupsFirst};
+ghost use Rattle.xs_snapshot.specs.Restorable.{IsRestorableKey};
+ghost use Rattle.xs_snapshot.specs.SoFar.{AreRestorableGroups};
 
 use crate::group_builder::GroupBuilder;
 use std::alloc::{AllocError, Global};
@@ -33,7 +35,7 @@ pub(crate) struct KeyBuilder {
 impl Model for KeyBuilder {
     ghost use Rattle.xs_snapshot.specs.Building.{KeySoFar};
     ghost use Rattle.xs_snapshot.specs.BuildingCodes.{coded_key_so_far};
-    ghost use Rattle.xs_snapshot.specs.NextPiece.{IsKeySoFar};
+    ghost use Rattle.xs_snapshot.specs.SoFar.{IsKeySoFar};
 
     ghost Value = { KeySoFar };
 
@@ -58,6 +60,7 @@ fn push_group(groups: &mut Groups, last: Option<GroupBuilder>) -> Result<bool, A
     ensures next { IfOk result (λ put. put ≡ is_past_if_there last groups.old) }
     ensures behind { IfOk result (λ put. put ≡ true → flat_map pieces_of_group groups.new.entries
         ≡ flat_map pieces_of_group groups.old.entries ++ pieces_if_there pieces_of_group last) }
+    ensures restorable { AreRestorableGroups groups.old.entries → AreRestorableGroups groups.new.entries }
 {
     let Some(last) = last else {
         return Ok(true);
@@ -175,6 +178,7 @@ impl KeyBuilder {
         ensures name { IfOk result (λ found. IfSome found (λ key. key.0 ≡ self.key.0)) }
         ensures pieces { IfOk result (λ found. IfSome found (λ key. pieces_of_key (key.0, key_state_of key.1)
             ≡ pieces_of_key_so_far self)) }
+        ensures restorable { IfOk result (λ found. IfSome found (λ key. IsRestorableKey (key_state_of key.1))) }
     {
         let Self {
             name,

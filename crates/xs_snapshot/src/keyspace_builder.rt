@@ -5,6 +5,7 @@ ghost use Rattle.xs_replay.specs.Pieces.{of_key, of_entry, of_group, of_consumer
 ghost use Rattle.xs_log.specs.PieceOf.{piece_of};
 ghost use Rattle.xs_snapshot.specs.Building.{pieces_if_there, pieces_of_key_so_far, pieces_so_far};
 ghost use Rattle.xs_snapshot.specs.NextPiece.{is_whole, may_follow, IsInOrder};
+ghost use Rattle.xs_snapshot.specs.Restorable.{IsRestorable};
 
 use crate::key_builder::KeyBuilder;
 use std::alloc::{AllocError, Global};
@@ -27,10 +28,9 @@ pub struct KeyspaceBuilder {
 }
 
 impl Model for KeyspaceBuilder {
-    ghost use Rattle.std.specs.Prelude.{◌≡◌, [], MatchOption};
     ghost use Rattle.xs_snapshot.specs.Building.{Building};
     ghost use Rattle.xs_snapshot.specs.BuildingCodes.{coded_building};
-    ghost use Rattle.xs_snapshot.specs.NextPiece.{AreGroupsFirst};
+    ghost use Rattle.xs_snapshot.specs.SoFar.{IsKeyspaceSoFar};
 
     ghost Value = { Building };
 
@@ -38,7 +38,7 @@ impl Model for KeyspaceBuilder {
 
     ghost view = { λ b. record { content = b.keyspace; key = b.key } };
 
-    ghost invariant = { λ b. MatchOption b.key (b.keyspace.entries ≡ []) AreGroupsFirst };
+    ghost invariant = { λ b. IsKeyspaceSoFar b.keyspace b.key };
 }
 
 /// Puts the last key behind the others, if there is one, and says whether it is whole and its name is above theirs.
@@ -47,6 +47,7 @@ fn push_key(keyspace: &mut Keyspace, last: Option<KeyBuilder>) -> Result<bool, A
         ≡ is_whole (record { content = keyspace.old; key = last })) }
     ensures behind { IfOk result (λ put. put ≡ true → pieces_of keyspace.new
         ≡ pieces_of keyspace.old ++ pieces_if_there pieces_of_key_so_far last) }
+    ensures restorable { IsRestorable keyspace.old → IsRestorable keyspace.new }
 {
     let Some(last) = last else {
         return Ok(true);
@@ -103,6 +104,7 @@ impl KeyspaceBuilder {
     pub fn finish(self) -> Result<Option<Keyspace>, AllocError>
         ensures whole { IfOk result (λ found. is_some found ≡ is_whole self) }
         ensures pieces { IfOk result (λ found. IfSome found (λ keyspace. pieces_of keyspace ≡ pieces_so_far self)) }
+        ensures restorable { IfOk result (λ found. IfSome found IsRestorable) }
     {
         let Self {
             mut keyspace,

@@ -33,6 +33,7 @@ fn put_next(builder: &mut KeyspaceBuilder, piece: Piece, count: u64) -> Result<(
 /// The keyspace of so many pieces, all that there are.
 fn finish(builder: KeyspaceBuilder, count: u64) -> Result<Keyspace, SnapshotFault>
     ensures ok { IfOk result (λ keyspace. pieces_of keyspace ≡ pieces_so_far builder) }
+    ensures restorable { IfOk result IsRestorable }
     ensures err { is_whole builder ≡ true → IfErr result HasRunOut }
 {
     match builder.finish() {
@@ -58,6 +59,8 @@ pub fn read_snapshot<R: Source + Drop>(
     // So it is of a source that doesn't tell what it has: what was read is a snapshot.
     ensures whole { IfOk result (λ read. (bytes : List ℕ)
         × IsSnapshotFile number bytes (record { content = read.0; moment = read.1 })) }
+    // Its content is restorable.
+    ensures restorable { IfOk result (λ read. IsRestorable read.0) }
     // A snapshot with this number is never refused if its content is restorable, unless memory, the source or a number
     // of 64 bits runs out.
     ensures err { (bytes : List ℕ) (state : ServerState) → known_by R.rest source ≡ Some bytes →

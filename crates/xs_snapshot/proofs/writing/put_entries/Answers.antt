@@ -4,7 +4,7 @@ use Rattle.xs_replay.specs.Pieces.{of_entry}
 use Rattle.xs_snapshot.specs.Writing.{pieces_of_entries}
 use Rattle.xs_snapshot.proofs.Putting.{entry_next, at_start, one_further, next_is_short, given_on}
 use Rattle.xs_stream.specs.StreamContent.{state_of}
-use Rattle.xs_snapshot.proofs.RestorableParts.{stream-kept}
+use Rattle.xs_snapshot.proofs.KeptRestorable.{stream-kept}
 use Rattle.xs_snapshot.proofs.writing.put_entries.Goals as goal
 
 pub loop-entry-init : goal.loop-entry-init

@@ -4,7 +4,7 @@ use Rattle.xs_replay.specs.Pieces.{pieces_of_group}
 use Rattle.xs_snapshot.specs.Restorable.{AreRestorableGroups}
 use Rattle.xs_snapshot.specs.Writing.{pieces_of_groups}
 use Rattle.xs_snapshot.proofs.Putting.{IsHalfway, at_start, further, next_can, given_on}
-use Rattle.xs_snapshot.proofs.RestorableParts.{group-restorable}
+use Rattle.xs_snapshot.proofs.KeptRestorable.{group-restorable}
 use Rattle.xs_snapshot.proofs.writing.put_groups.Goals as goal
 
 pub loop-name-init : goal.loop-name-init
