@@ -9,5 +9,3 @@ pub mod RestorableContents
 pub mod KeptRestorable
 pub mod RestorableParts
 pub mod RestorableHistories
-pub mod KeptRestorable
-pub mod RestorableParts
