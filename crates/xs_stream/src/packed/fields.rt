@@ -111,6 +111,7 @@ impl<'a> Iterator for PackedFields<'a> {
 
     ghost remaining = { item_count (λ s. s) };
 
+    #[inline(always)]
     fn next(&mut self) -> Option<FieldView<'a>> {
         if self.left == 0 {
             return None;
