@@ -69,11 +69,7 @@ impl<L: EventLog + Drop> LogJournal<L> {
 
     /// A journal that goes on behind the events of a log, which have left what the keyspace has. Before them it was the
     /// first one.
-    pub(crate) fn new(
-        log: L,
-        first: Snapshot<Keyspace>,
-        keyspace: &Keyspace,
-    ) -> LogJournal<L>
+    pub(crate) fn new(log: L, first: Snapshot<Keyspace>, keyspace: &Keyspace) -> LogJournal<L>
         requires log { ContinuesLog L.has first.value log keyspace.now }
         requires sound { L.broken log ≡ false }
         ensures has { HasEvents L.has result.log result.failed result.first result.start [] 0 }

@@ -38,7 +38,14 @@ fn tells_of(fault: LogFault, begin: usize) -> bool {
 fn fault_of_closed(alloc: Global, file: &[u8]) -> Result<Option<LogFault>, Fail> {
     let mut closed = Vec::new(alloc);
     closed.push(FromRead::new(file))?;
-    let told = xs_log::recover(alloc, 1, Recovered::new(alloc), closed, FromRead::new(b"" as &[u8])).err();
+    let told = xs_log::recover(
+        alloc,
+        1,
+        Recovered::new(alloc),
+        closed,
+        FromRead::new(b"" as &[u8]),
+    )
+    .err();
     Ok(told.map(|refusal| refusal.fault))
 }
 
