@@ -7,6 +7,7 @@ import itertools
 import os
 import random
 import resource
+import select
 import shutil
 import signal
 import subprocess
@@ -233,8 +234,7 @@ def waits_for_its_end(program):
             fcntl.flock(lock, fcntl.LOCK_EX)
             words = [*served.words_of_run(program, served.free_port(), 2), "--log", folder]
             child = subprocess.Popen(words, stderr=subprocess.PIPE)
-            time.sleep(0.5)
-            assert child.poll() is None
+            assert not select.select([child.stderr], [], [], 0.5)[0], "it didn't wait"
             fcntl.flock(lock, fcntl.LOCK_UN)
             assert b"0 records" in child.stderr.readline()
             child.kill()
