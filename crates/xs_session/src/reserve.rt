@@ -75,11 +75,6 @@ impl Reserve {
         add_pieces(alloc, &mut self.great, GREAT_PIECES, GREAT_PIECE)
     }
 
-    /// Whether all small pieces are there.
-    pub fn has_small_pieces(&self) -> bool {
-        self.small.len() == SMALL_PIECES
-    }
-
     /// Whether there is no piece.
     pub fn is_empty(&self) -> bool
         ensures { result ≡ (self.now == 0) }

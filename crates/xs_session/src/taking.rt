@@ -56,16 +56,12 @@ fn makes_room(reserve: &mut Reserve, words: Request<'_>) -> bool {
     true
 }
 
-/// The command of a request, as `read_request` gives it. While no memory is found there are further tries. An addition
-/// is refused before its words are copied if memory that was given back for other requests isn't found again.
+/// The command of a request, as `read_request` gives it. While no memory is found there are further tries.
 fn command_of(alloc: Global, reserve: &mut Reserve, words: Request<'_>) -> Result<Command, Refusal>
     requires { 0 < length words }
     ensures exact { Gives result (command_of_words words.entry) }
     ensures formed { IfOk result IsWellFormed }
 {
-    if !reserve.has_small_pieces() && names_addition(words.again()) {
-        return Err(Refusal::Memory);
-    }
     let mut said = read_request(alloc, words.again());
     for _ in 0..MOST_TRIES {
         if !matches!(said, Err(Refusal::Memory)) || !makes_room(reserve, words.again()) {
