@@ -226,6 +226,16 @@ def refused(program):
         is_refusal(compact(program, nowhere), nowhere, "it can't be written: .*")
 
 
+def without_memory(program):
+    """A compaction that finds no memory for what the queues hold is refused, and changes nothing."""
+    events = [(BEGAN + place, [b"XADD", b"s", b"%d-0" % place, b"f", b"v" * 2000]) for place in range(1, 12_001)]
+    with new_folder() as folder:
+        logs.write_logs(folder, *in_logs(events, [6000]))
+        little = served.with_limits({resource.RLIMIT_AS: 13 << 20})
+        is_refusal(compact(program, folder, little), folder, "log-1 out of memory")
+        assert names(folder) == {"log-1", "log-2"}
+
+
 def waits_for_its_end(program):
     """A start waits until nobody compacts the folder."""
     with new_folder() as folder:
@@ -241,4 +251,5 @@ def waits_for_its_end(program):
             child.wait()
 
 
-CASES = (contents_at_random, beside_a_server, what_a_crash_leaves, backed_up, killed, refused, waits_for_its_end)
+CASES = (contents_at_random, beside_a_server, what_a_crash_leaves, backed_up, killed, refused, without_memory,
+         waits_for_its_end)
