@@ -325,7 +325,8 @@ def two_logs(program):
     read; if there is no memory for it the start is refused, and nothing is changed."""
     value, count = b"v" * 1_000_000, 70
     with syncs.counted() as told, new_folder() as folder:
-        with logged(program, folder, "no", environment=told.environment) as server, Connection(server.port) as one:
+        with (logged(program, folder, "no", compact="never", environment=told.environment) as server,
+              Connection(server.port) as one):
             for place in range(1, count + 1):
                 one.ask("XADD", "s", f"{place}-0", "f", value)
             server.child.kill()
@@ -337,7 +338,7 @@ def two_logs(program):
         files = [os.stat(logs.path_of(folder, place)) for place in (1, 2)]
         limits = served.with_limits({resource.RLIMIT_AS: 64 * MEGABYTE})
         is_refusal(start(program, folder, before=limits), folder, "log-[12] out of memory")
-        with logged(program, folder) as server, Connection(server.port) as one:
+        with logged(program, folder, compact="never") as server, Connection(server.port) as one:
             assert read_at_start(server, folder) == (count, 0)
             assert one.ask("XLEN", "s") == count
             for place in (1, 67, count):
