@@ -33,6 +33,17 @@ RECORDS = logs.record(1_700_000_000_000, ADDITION) * 65
 COMPACTED = "snapshot-{} in the place of {} logs"
 
 
+SERVICE = os.path.join(os.path.dirname(os.path.dirname(os.path.abspath(__file__))), "service")
+
+
+def words_of_unit(name, program, folder):
+    """The words that a unit runs the program with, for this folder."""
+    with open(os.path.join(SERVICE, name), encoding="utf-8") as lines:
+        started = next(line for line in lines if line.startswith("ExecStart="))
+    _, *words = started.strip().split(" ")
+    return [program, *(folder if word == "${STATE_DIRECTORY}" else word for word in words)]
+
+
 class Heard:
     """What a process writes on standard error from now on: lines on a folder, each behind the same words."""
 
@@ -91,8 +102,8 @@ def told(server):
 @contextlib.contextmanager
 def watched(program, folder, before=None):
     """What a process writes that compacts the folder each time that it is due, up to a signal."""
-    child = subprocess.Popen([program, "compact", folder, "--watch"], stdout=subprocess.DEVNULL,
-                             stderr=subprocess.PIPE, preexec_fn=before)
+    words = words_of_unit("xs_server-compact.service", program, folder)
+    child = subprocess.Popen(words, stdout=subprocess.DEVNULL, stderr=subprocess.PIPE, preexec_fn=before)
     try:
         yield Heard(child, folder)
         child.send_signal(signal.SIGTERM)
@@ -229,9 +240,13 @@ def how_much_is_due(program):
 
 def beside_it(program):
     """A process beside the server compacts each time that it is due, up to a signal; the server leaves that to it, and
-    serves. A folder that isn't there is refused."""
+    serves, as their units have it. A folder that isn't there is refused."""
     with new_folder() as folder:
-        with logged(program, folder, "no", compact="never") as server, watched(program, folder) as heard:
+        os.mkdir(folder)
+        port = served.free_port()
+        words = [*words_of_unit("xs_server.service", program, folder), "--port", str(port)]
+        with served.Server(words, port, 64, None) as server, watched(program, folder) as heard:
+            server.lines_until(server.child.stderr, "listening on")
             with adding(server) as count:
                 for place in (2, 3):
                     fill_log(server)
