@@ -187,8 +187,9 @@ def not_while_it_serves(program):
     def at_the_start(folder):
         write_due(folder)
         with logged(program, folder, "no", compact="start") as server:
-            line = f"xs_server: log {folder}: {COMPACTED.format(2, 1)}\n"
-            assert server.said[0] == line and ": snapshot-2, 0 records" in server.said[1], server.said
+            said = [line for line in server.said if not line.endswith(" bytes read\n")]
+            assert said[0] == f"xs_server: log {folder}: {COMPACTED.format(2, 1)}\n", server.said
+            assert ": snapshot-2, 0 records" in said[1], server.said
             fill_log(server)
             Heard(server.child, folder).stay()
             assert told(server) == ("0", "ok", "start", "2"), told(server)

@@ -51,7 +51,7 @@ pub fn compact_each_second<W: Sink, R: Wait + Clock>(
     out: &mut W,
 ) {
     for _ in rt.forever() {
-        compact_and_say(files, compactor, out);
         thread::sleep(rt, Duration::from_secs(SECONDS));
+        compact_and_say(files, compactor, out);
     }
 }
