@@ -324,18 +324,17 @@ def refused_without_room(program):
 
 
 def not_listed(program):
-    """If a folder can't be listed, that is said once, and it is listed again once it can be."""
-    with new_folder() as folder:
-        os.mkdir(folder)
-        with watched(program, folder) as heard:
-            time.sleep(0.3)
-            os.rename(folder, folder + " aside")
-            texts = heard.texts
-            information.comes_to(lambda: len(texts()), 1)
-            assert texts()[0].startswith("not compacted: it can't be read: "), texts()
-            heard.stay(texts()[0])
-            write_due(folder)
-            heard.come_to(texts()[0], COMPACTED.format(2, 1))
+    """If a folder can't be listed, that is said once, also in INFO as long as it is so."""
+    with new_folder() as folder, logged(program, folder) as server:
+        heard = Heard(server.child, folder)
+        os.rename(folder, folder + " aside")
+        information.comes_to(lambda: told(server)[1], "err")
+        texts = heard.texts()
+        assert len(texts) == 1 and texts[0].startswith("not compacted: it can't be read: "), texts
+        heard.stay(*texts)
+        os.rename(folder + " aside", folder)
+        information.comes_to(lambda: told(server)[1], "ok")
+        say_at(server, "XADD s 1-0 f v", bulk("1-0"))
 
 
 def wrong_words(program):
