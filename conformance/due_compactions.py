@@ -156,6 +156,18 @@ def while_it_serves(program):
             say_at(server, "XLEN great", number(1))
 
 
+def gives_its_memory_back(program):
+    """The memory that a compaction takes in a server goes back to the system."""
+    entry = logs.record(1_700_000_000_000, [b"XADD", b"s", b"*", b"f", b"v" * 1000])
+    with new_folder() as folder:
+        logs.write_logs(folder, logs.header(1) + entry * 100_000, logs.header(2))
+        with logged(program, folder) as server:
+            before = server.resident()
+            Heard(server.child, folder).come_to(COMPACTED.format(2, 1))
+            assert server.peak() > 1.7 * before > 1.7 * 100 * MEGABYTE, (before, server.peak())
+            information.comes_to(lambda: server.resident() < 1.1 * before, True)
+
+
 def killed_within(program):
     """INFO tells that a compaction runs, and clients are served meanwhile. What a kill leaves then has all."""
     with new_folder() as folder, tempfile.TemporaryDirectory() as above:
@@ -357,5 +369,5 @@ def wrong_words(program):
             assert done.returncode == 0 and option in done.stdout, done
 
 
-AT_ONCE = (wrong_words, while_it_serves, killed_within, not_while_it_serves, how_much_is_due, beside_it,
-           refused_while_another_runs, refused_without_memory, refused_without_room, not_listed)
+AT_ONCE = (wrong_words, while_it_serves, gives_its_memory_back, killed_within, not_while_it_serves, how_much_is_due,
+           beside_it, refused_while_another_runs, refused_without_memory, refused_without_room, not_listed)

@@ -78,39 +78,53 @@ impl Compactor {
         Arc::try_clone(&self.state)
     }
 
-    /// Compacts the folder, which has this, if that is due. It gives None if it isn't.
-    fn compact<R: Files<File = File> + AllocGlobal + Copy + Drop>(
+    /// Whether a compaction of the folder, which has this, is due.
+    fn is_due_with<R: Files<File = File> + AllocGlobal + Copy + Drop>(
         &self,
         rt: &R,
         listing: &Listing,
-    ) -> Result<Option<Compaction>, FolderFault> {
-        let folder = self.folder.as_str();
-        if !sizes_of(rt, self.alloc, folder, listing)?.is_due() {
-            return Ok(None);
-        }
-        self.state.begins();
-        compact_if_due(rt, folder, &self.progress)
+    ) -> Result<bool, FolderFault> {
+        let sizes = sizes_of(rt, self.alloc, self.folder.as_str(), listing)?;
+        Ok(sizes.is_due())
     }
 
-    /// Compacts the folder if that is due, and a log was closed since the last call. It gives None if there was nothing
-    /// to do. The log that is written isn't touched, so a server may use the folder.
+    /// Whether a compaction is due, and a log was closed since the last call: then `compact` is to be called, once.
     ///
     /// # Errors
-    /// A `FolderFault`, once: the next try comes once another log is closed, or once the folder can be listed.
-    pub fn compact_once_due<R: Files<File = File> + AllocGlobal + Copy + Drop>(
+    /// A `FolderFault`, once: the next call that looks is that behind the next log, or once the folder can be listed.
+    pub fn is_due<R: Files<File = File> + AllocGlobal + Copy + Drop>(
         &mut self,
         rt: &R,
-    ) -> Result<Option<Compaction>, FolderFault> {
+    ) -> Result<bool, FolderFault> {
         let listing = match list(rt, self.folder.as_str()) {
             Ok(listing) => listing,
-            Err(_) if self.state.lists(false) => return Ok(None),
+            Err(_) if self.state.lists(false) => return Ok(false),
             Err(fault) => return Err(fault),
         };
         self.state.lists(true);
         if !self.last_look.is_news(listing.last) {
-            return Ok(None);
+            return Ok(false);
         }
-        let done = self.compact(rt, &listing);
+        let is_due = self.is_due_with(rt, &listing);
+        match is_due {
+            Ok(true) => {}
+            Ok(false) => self.state.ends(&Ok(None)),
+            Err(fault) => self.state.ends(&Err(fault)),
+        }
+        is_due
+    }
+
+    /// Compacts the folder, unless somebody else just did: then it gives None. The last log isn't touched, so a server may
+    /// use the folder.
+    ///
+    /// # Errors
+    /// A `FolderFault`, and nothing was removed.
+    pub fn compact<R: Files<File = File> + AllocGlobal + Copy + Drop>(
+        &self,
+        rt: &R,
+    ) -> Result<Option<Compaction>, FolderFault> {
+        self.state.begins();
+        let done = compact_if_due(rt, self.folder.as_str(), &self.progress);
         self.state.ends(&done);
         done
     }

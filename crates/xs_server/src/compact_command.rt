@@ -6,6 +6,7 @@ use crate::logged_command::report_folder;
 use crate::report::report_memory;
 use std::alloc::{AllocError, Global};
 use std::sync::{Arc, Wait};
+use std::thread::Threads;
 use std::time::Clock;
 use xs_devices::{Sink, write_all};
 use xs_files::listing::list;
@@ -48,7 +49,7 @@ fn compactor_of(alloc: Global, folder: &str) -> Result<Compactor, AllocError> {
 
 /// Compacts a folder of logs each time that it is due, up to a signal, and says on `errors` what was done, or why not.
 /// It gives the status of the program: 1 if there is no such folder, or no memory at the start.
-pub fn watch_and_report<E: Sink, R: Wait + Clock>(
+pub fn watch_and_report<E: Sink, R: Threads + Wait + Clock>(
     rt: &R,
     files: &HostRuntime,
     folder: &str,

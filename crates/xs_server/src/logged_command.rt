@@ -96,7 +96,8 @@ pub struct OpenedLog {
 }
 
 /// Locks the folder of a log, compacts it if that is due at a start, and opens it.
-fn open_locked<E: Sink>(
+fn open_locked<E: Sink, R: Threads>(
+    rt: &R,
     files: &HostRuntime,
     log: &LogOptions,
     progress: &Arc<Progress>,
@@ -113,7 +114,7 @@ fn open_locked<E: Sink>(
     let folder = log.folder.as_str();
     let lock = lock_folder(files, folder)?;
     if log.compact == CompactPolicy::Start {
-        compact_and_say(files, compactor, errors);
+        compact_and_say(rt, files, compactor, errors);
     }
     open_folder(files, folder, lock, log.policy, progress)
 }
@@ -161,7 +162,7 @@ pub fn open_logs<
         return Err(report_memory(errors));
     };
     let mut compactor = compactor;
-    let opened = match open_locked(files, log, &telling.progress, &mut compactor, errors) {
+    let opened = match open_locked(rt, files, log, &telling.progress, &mut compactor, errors) {
         Ok(opened) => opened,
         Err(fault) => return Err(report_folder(alloc, folder, fault, errors)),
     };
