@@ -185,6 +185,20 @@ fn option_with_default<'a>(
         .help(help)
 }
 
+/// A command with the options of a log.
+fn with_log_options<'a>(alloc: Global, command: Command<'a>) -> Result<Command<'a>, AllocError> {
+    let log = Arg::new(alloc, "log").long("log").value_name("FOLDER").help(
+        "Keeps all in the files of this folder, which a restart reads",
+    );
+    let sync = Arg::new(alloc, "sync").long("sync").help(
+        "When the log is synced: always before an answer (the default), each second, or no",
+    );
+    let compact = Arg::new(alloc, "compact").long("compact").help(
+        "When the closed logs of the folder are compacted: serving (the default), start, or never",
+    );
+    command.arg(log)?.arg(sync)?.arg(compact)
+}
+
 /// The command `run`.
 fn run_command<'a>(alloc: Global) -> Result<Command<'a>, AllocError> {
     let port = value_parser!(u16).range(1..);
@@ -200,15 +214,6 @@ fn run_command<'a>(alloc: Global) -> Result<Command<'a>, AllocError> {
         .default_value("0")
         .allow_negative_numbers(true)
         .help("Refuses additions beyond so many bytes, such as 64m or 2g; 0 is no bound");
-    let log = Arg::new(alloc, "log").long("log").value_name("FOLDER").help(
-        "Keeps all in the files of this folder, which a restart reads",
-    );
-    let sync = Arg::new(alloc, "sync").long("sync").help(
-        "When the log is synced: always before an answer (the default), each second, or no",
-    );
-    let compact = Arg::new(alloc, "compact").long("compact").help(
-        "When the closed logs of the folder are compacted: serving (the default), start, or never",
-    );
     let password_file = Arg::new(alloc, "password-file")
         .long("password-file")
         .value_name("FILE")
@@ -217,7 +222,7 @@ fn run_command<'a>(alloc: Global) -> Result<Command<'a>, AllocError> {
         .long("open")
         .action(ArgAction::SetTrue)
         .help("Lets --bind be an address that others reach without a password");
-    Command::new(alloc, "run")
+    let command = Command::new(alloc, "run")
         .about(ABOUT_RUN)
         .arg(option_with_default(alloc, "port", port, "6379", "The port, 1 to 65535"))?
         .arg(bind)?
@@ -237,10 +242,8 @@ fn run_command<'a>(alloc: Global) -> Result<Command<'a>, AllocError> {
         ))?
         .arg(open)?
         .arg(password_file)?
-        .arg(max_memory)?
-        .arg(log)?
-        .arg(sync)?
-        .arg(compact)
+        .arg(max_memory)?;
+    with_log_options(alloc, command)
 }
 
 /// The command `compact`.
