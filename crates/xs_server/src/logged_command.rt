@@ -297,8 +297,15 @@ pub fn run_logged<
         compact: log.compact,
         compactions,
     };
-    let made = make_ready(rt, files, options, Some(told), password, out, errors);
-    let Ready { gates, patience } = match made {
+    let Ready { gates, patience } = match make_ready(
+        rt,
+        files,
+        options,
+        Some(told),
+        password,
+        out,
+        errors,
+    ) {
         Ok(ready) => ready,
         Err(status) => return status,
     };

@@ -188,8 +188,9 @@ pub fn run_server<
 ) -> u8
     ensures served { result ≡ 0 → HasServed (manner.Full password.now) options.now.workers }
 {
-    let made = make_ready(rt, files, options, None, password, out, errors);
-    let Ready { gates, patience } = match made {
+    let Ready { gates, patience } = match make_ready(
+        rt, files, options, None, password, out, errors,
+    ) {
         Ok(ready) => ready,
         Err(status) => return status,
     };
