@@ -31,8 +31,6 @@ ADDITION = [b"XADD", b"great", b"MAXLEN", b"1", b"*", b"f", b"v" * MEGABYTE]
 # Above 64 MiB, and what a folder has that has been compacted often.
 RECORDS = logs.record(1_700_000_000_000, ADDITION) * 65
 COMPACTED = "snapshot-{} in the place of {} logs"
-
-
 SERVICE = os.path.join(os.path.dirname(os.path.dirname(os.path.abspath(__file__))), "service")
 
 
@@ -69,13 +67,6 @@ class Heard:
         """These lines are there for some seconds, and no others."""
         time.sleep(LATE)
         assert self.texts() == list(texts), (self.texts(), texts)
-
-
-def close_log(folder, number, data=b""):
-    """The last log has these bytes more, and is closed."""
-    with open(logs.path_of(folder, number), "ab") as file:
-        file.write(data)
-    logs.write_file(logs.path_of(folder, number + 1), logs.header(number + 1))
 
 
 def fill_log(server):
@@ -116,13 +107,16 @@ def watched(program, folder, before=None):
 @contextlib.contextmanager
 def adding(server):
     """While the block runs a client adds one entry behind the other, and each is answered. The list has how many were."""
-    count, done = [0], threading.Event()
+    count, faults, done = [0], [], threading.Event()
 
     def add():
         with raw(server.port) as stream:
-            while not done.is_set():
-                say(stream, f"XADD small {count[0] + 1}-0 f v", bulk(f"{count[0] + 1}-0"))
-                count[0] += 1
+            try:
+                while not done.is_set():
+                    say(stream, f"XADD small {count[0] + 1}-0 f v", bulk(f"{count[0] + 1}-0"))
+                    count[0] += 1
+            except (AssertionError, OSError) as fault:
+                faults.append(fault)
 
     adder = threading.Thread(target=add)
     adder.start()
@@ -131,7 +125,7 @@ def adding(server):
     finally:
         done.set()
         adder.join()
-    assert count[0] > 100, count
+    assert not faults and count[0] > 100, (faults, count)
 
 
 def while_it_serves(program):
@@ -330,7 +324,7 @@ def refused_without_room(program):
             limit = resource.prlimit(heard.child.pid, resource.RLIMIT_FSIZE)[1]
             resource.prlimit(heard.child.pid, resource.RLIMIT_FSIZE, (limit, limit))
             heard.stay(text)
-            close_log(folder, 2)
+            logs.write_file(logs.path_of(folder, 3), logs.header(3))
             heard.come_to(text, COMPACTED.format(3, 2))
             assert names(folder) == {"snapshot-3", "log-3"}, names(folder)
 
