@@ -3,13 +3,13 @@
 
     durable.py [--kills N] [--only CASE,..] PROGRAM
 
-It is killed while clients that keep books are at work (conformance/books.py), N times, 30 if not given; behind half of
-the kills the log loses what no sync had kept, as if the machine had stopped. conformance/kept.py has the cases of syncs
-and of room, bad_folders.py those of folders and logs that aren't right, crash_points.py cuts a log at each record,
-compaction.py has those of snapshots, folder_crashes.py stops the machine at each change of a folder, refused_logs.py
-refuses memory, and kept_log.py starts it on a log that an earlier program made. It needs Python's standard library, and
-a C compiler for the libraries that are loaded into it. What is at random has a fixed seed. The last line is 'N passed, M
-failed'; the status is 1 if M > 0.
+It is killed while clients that keep books are at work (conformance/books.py), N times, 30 if not given, and 20 times
+beside compactions (compaction_kills.py); behind half of the former kills the log loses what no sync had kept, as if the
+machine had stopped. conformance/kept.py has the cases of syncs and of room, bad_folders.py those of folders and logs
+that aren't right, crash_points.py cuts a log at each record, compaction.py has those of snapshots, folder_crashes.py
+stops the machine at each change of a folder, refused_logs.py refuses memory, and kept_log.py starts it on a log that an
+earlier program made. It needs Python's standard library, and a C compiler for the libraries that are loaded into it.
+What is at random has a fixed seed. The last line is 'N passed, M failed'; the status is 1 if M > 0.
 """
 import argparse
 import os
@@ -25,6 +25,7 @@ import bad_folders
 import clock_steps
 import commands
 import compaction
+import compaction_kills
 import crash_points
 import folder_crashes
 import full_queue
@@ -393,18 +394,25 @@ CASES = (*bad_folders.CASES, *compaction.CASES, *folder_crashes.CASES, what_a_lo
          killed_between_syncs)
 
 
+def killing(case, kills):
+    """The case with so many kills."""
+    def killed(program):
+        case(program, kills)
+
+    killed.__name__ = case.__name__
+    return killed
+
+
 def main():
     parser = argparse.ArgumentParser(description=__doc__, formatter_class=argparse.RawDescriptionHelpFormatter)
-    parser.add_argument("--kills", type=int, default=30)
+    parser.add_argument("--kills", type=int, default=0)
     parser.add_argument("--only", default="", help="the cases with these names")
     parser.add_argument("program")
     given = parser.parse_args()
 
-    def killed(program):
-        killed_under_load(program, given.kills)
-
-    killed.__name__ = killed_under_load.__name__
-    cases = [case for case in (*CASES, killed) if not given.only or case.__name__ in given.only.split(",")]
+    with_kills = [killing(killed_under_load, given.kills or 30),
+                  killing(compaction_kills.killed_beside_compactions, given.kills or 20)]
+    cases = [case for case in (*CASES, *with_kills) if not given.only or case.__name__ in given.only.split(",")]
     results = []
     for case in cases:
         if results.count(False) < MOST_FAULTS:
