@@ -91,8 +91,9 @@ clients:
 	python3 conformance/clients.py $(PROGRAM)
 	python3 conformance/examples.py $(PROGRAM)
 
-# Runs the program as a server for clients that are hostile, unlucky or many, and kills it 200 times under load.
+# Runs the program as a server for clients that are hostile, unlucky or many, and kills it 200 times under load, and as
+# often beside compactions.
 hostile:
 	$(BUILD)
 	python3 conformance/hostile.py $(PROGRAM)
-	python3 conformance/durable.py --only killed_under_load --kills 200 $(PROGRAM)
+	python3 conformance/durable.py --only killed_under_load,killed_beside_compactions --kills 200 $(PROGRAM)

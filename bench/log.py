@@ -49,9 +49,9 @@ def redis_words(folder, policy):
             "--auto-aof-rewrite-percentage", "0", "--dir", folder, "--logfile", os.path.join(folder, "redis.log")]
 
 
-def start(words, driver):
+def start(words, driver, within=5):
     port = free_port()
-    return Server([str(port) if word == "PORT" else word for word in words], port, driver)
+    return Server([str(port) if word == "PORT" else word for word in words], port, driver, within)
 
 
 def tell_sync(folder):

@@ -69,13 +69,13 @@ class Asked:
 
 
 class Server:
-    """A server that is asked, and ended by its process id."""
+    """A server that is asked, and ended by its process id. It has to listen within so many seconds."""
 
-    def __init__(self, words, port, driver):
+    def __init__(self, words, port, driver, within=5):
         self.port = port
         self.driver = driver
         self.child = subprocess.Popen(words, stdout=subprocess.DEVNULL, stderr=subprocess.DEVNULL)
-        for _ in range(100):
+        for _ in range(20 * within):
             try:
                 socket.create_connection(("127.0.0.1", port)).close()
                 return

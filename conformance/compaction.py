@@ -34,6 +34,7 @@ NAMED = [words_of("XADD x 5-5 \1\0 \2"), words_of(f"XGROUP CREATE x {'g' * 100_0
          words_of("XCLAIM x " + "g" * 100_000 + " b 0 5-5 TIME 7 RETRYCOUNT 9223372036854775807 JUSTID"),
          words_of("XADD u 18446744073709551615-18446744073709551614 f v"),
          words_of("XGROUP CREATE u top $"), words_of("XDEL u 18446744073709551615-18446744073709551614")]
+QUESTIONS = [*WHOLE, *LOOKS, *OWN, *FURTHER, *WHOLE]
 
 
 def compact(program, folder, before=None):
@@ -69,15 +70,24 @@ def in_logs(events, cuts):
             for place, (first, end) in enumerate(zip([0, *cuts], ends), 1)]
 
 
-def is_behind(program, folder, events, questions=(*WHOLE, *LOOKS, *OWN, *FURTHER, *WHOLE)):
-    """A server over the folder replies what the model replies behind these events."""
+def replies_behind(program, events, questions=QUESTIONS):
+    """What the model replies behind these events."""
     now = int(time.time() * 1000)
-    want = states.script_replies(program, [*events, *((now, words) for words in questions)])[len(events):]
-    with logged(program, folder) as server, Connection(server.port) as one:
-        got = states.ask_all(one, questions)
+    return states.script_replies(program, [*events, *((now, words) for words in questions)])[len(events):]
+
+
+def same_as_behind(want, got, questions=QUESTIONS):
+    """A server replied what the model does. Times are compared as long as no question has changed any."""
     first = len(WHOLE)
     assert got[:first] == want[:first], [pair for pair in zip(want[:first], got) if pair[0] != pair[1]][0]
     states.same_replies(questions[first:-first], want[first:-first], got[first:-first])
+
+
+def is_behind(program, folder, events, questions=QUESTIONS):
+    """A server over the folder replies what the model replies behind these events."""
+    want = replies_behind(program, events, questions)
+    with logged(program, folder) as server, Connection(server.port) as one:
+        same_as_behind(want, states.ask_all(one, questions), questions)
 
 
 def contents_at_random(program):
@@ -104,17 +114,20 @@ def contents_at_random(program):
 def beside_a_server(program):
     """While a server goes on with the last log, the closed ones are compacted; behind a kill all is there."""
     events = events_at_random(program, "beside", 100)
+    cuts = [len(events) // 3, len(events) // 2]
     with new_folder() as folder:
-        logs.write_logs(folder, *in_logs(events, [60]))
+        logs.write_logs(folder, *in_logs(events, cuts))
         with logged(program, folder) as server, raw(server.port) as one:
             say(one, "XADD behind 1-0 f v", bulk("1-0"))
-            is_compacted(compact(program, folder), folder, "snapshot-2 in the place of 1 logs")
+            is_compacted(compact(program, folder), folder, "snapshot-3 in the place of 2 logs")
             say(one, "XADD behind 2-0 f v", bulk("2-0"))
             server.child.kill()
-        assert names(folder) == {"snapshot-2", "log-2"}
+        assert names(folder) == {"snapshot-3", "log-3"}
+        last = logs.events_in(folder, 3)
         with logged(program, folder) as server:
-            assert f"snapshot-2, {len(events) - 60 + 2} records" in server.said[-2], server.said
+            assert f"snapshot-3, {len(events) - cuts[-1] + 2} records" in server.said[-2], server.said
             say_at(server, "XLEN behind", number(2))
+        is_behind(program, folder, [*events[:cuts[-1]], *last])
 
 
 def what_a_crash_leaves(program):

@@ -3,12 +3,14 @@
 
     durable.py [--kills N] [--only CASE,..] PROGRAM
 
-It is killed while clients that keep books are at work (conformance/books.py), N times, 30 if not given; behind half of
-the kills the log loses what no sync had kept, as if the machine had stopped. conformance/kept.py has the cases of syncs
-and of room, bad_folders.py those of folders and logs that aren't right, crash_points.py cuts a log at each record,
-compaction.py has those of snapshots, due_compactions.py those that nobody asks for, refused_logs.py refuses memory, and
-kept_log.py starts it on a log that an earlier program made. It needs Python's standard library, and a C compiler for the libraries that are loaded into it. What is at
-random has a fixed seed. The last line is 'N passed, M failed'; the status is 1 if M > 0.
+It is killed while clients that keep books are at work (conformance/books.py), N times, 30 if not given, and 20 times
+beside compactions (compaction_kills.py); behind half of the former kills the log loses what no sync had kept, as if the
+machine had stopped. conformance/kept.py has the cases of syncs and of room, bad_folders.py those of folders and logs
+that aren't right, crash_points.py cuts a log at each record, compaction.py has those of snapshots, due_compactions.py
+those that nobody asks for, folder_crashes.py stops the machine at each change of a folder, refused_logs.py refuses
+memory, and kept_log.py starts it on a log that an earlier program made. It needs Python's standard library, and a C
+compiler for the libraries that are loaded into it. What is at random has a fixed seed. The last line is 'N passed, M
+failed'; the status is 1 if M > 0.
 """
 import argparse
 import os
@@ -24,8 +26,10 @@ import bad_folders
 import clock_steps
 import commands
 import compaction
+import compaction_kills
 import crash_points
 import due_compactions
+import folder_crashes
 import full_queue
 import kept
 import kept_log
@@ -36,6 +40,7 @@ import syncs
 from books import GROUP, KEY, Connection, Load, Queue, id_of
 from full_queue import MEGABYTE
 from great import array, bulk, entry, number
+from journal import torn
 from logged import NEXT, is_refusal, kill_while_it_starts, last_log, logged, new_folder, read_at_start, start
 from real_redis import read_reply, request
 from served import MOST_FAULTS, all_answer, asking, pass_together, passes, raw, read_to_end, say, say_at, tell
@@ -47,14 +52,10 @@ from waiting import NOTHING, READ, Clients, add, begin, comes, gives, make, noth
 
 
 def lose_what_was_not_kept(path, kept, made):
-    """The machine stops: of what stands behind the bytes that are kept some is lost, or is zero."""
+    """The machine stops. It gives how many bytes might be lost."""
     data = logs.read_file(path)
-    kept = min(kept, len(data))
-    first, end = sorted(made.randint(kept, len(data)) for _ in range(2))
-    way = made.randrange(3)
-    rest = (b"", bytes(end - first), bytes(end - first) + data[end:])[way]
-    logs.write_file(path, data[:first] + rest)
-    return len(data) - kept
+    logs.write_file(path, torn(kept, data, made))
+    return max(len(data) - kept, 0)
 
 
 def tear(path, made):
@@ -390,27 +391,36 @@ def tells_how_far_it_is(program):
                 assert not told if environment is None else told and 0 < told[0] < size, server.said
 
 
-CASES = (*bad_folders.CASES, *compaction.CASES, what_a_log_has, tells_how_far_it_is, *kept_log.CASES,
-         stopped_and_started, at_random, the_clock_is_late, waits_across_a_restart, *crash_points.CASES, *refused_logs.CASES, *kept.CASES, two_logs,
-         many_logs, full_memory, killed_without_syncs, killed_between_syncs)
+CASES = (*bad_folders.CASES, *compaction.CASES, *folder_crashes.CASES, what_a_log_has, tells_how_far_it_is,
+         *kept_log.CASES, stopped_and_started, at_random, the_clock_is_late, waits_across_a_restart,
+         *crash_points.CASES, *refused_logs.CASES, *kept.CASES, two_logs, many_logs, full_memory, killed_without_syncs,
+         killed_between_syncs)
+
+
+def killing(case, kills):
+    """The case with so many kills."""
+    def killed(program):
+        case(program, kills)
+
+    killed.__name__ = case.__name__
+    return killed
 
 
 def main():
     parser = argparse.ArgumentParser(description=__doc__, formatter_class=argparse.RawDescriptionHelpFormatter)
-    parser.add_argument("--kills", type=int, default=30)
+    parser.add_argument("--kills", type=int, default=0)
     parser.add_argument("--only", default="", help="the cases with these names")
     parser.add_argument("program")
     given = parser.parse_args()
 
-    def killed(program):
-        killed_under_load(program, given.kills)
+    with_kills = [killing(killed_under_load, given.kills or 30),
+                  killing(compaction_kills.killed_beside_compactions, given.kills or 20)]
 
-    killed.__name__ = killed_under_load.__name__
     def asked(cases):
         return [case for case in cases if not given.only or case.__name__ in given.only.split(",")]
 
     results = pass_together(asked(due_compactions.AT_ONCE), given.program)
-    for case in asked((*CASES, killed)):
+    for case in asked((*CASES, *with_kills)):
         if results.count(False) < MOST_FAULTS:
             results.append(passes(case, given.program))
     return tell(results)

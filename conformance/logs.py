@@ -140,12 +140,23 @@ def write_file(path, data):
         file.write(data)
 
 
+def write_folder(folder, files):
+    """Makes a folder that has these bytes of each name."""
+    os.mkdir(folder)
+    for name, data in files.items():
+        write_file(os.path.join(folder, name), data)
+    return folder
+
+
 def write_logs(folder, *logs):
     """Makes a folder whose logs, from the first on, have these bytes."""
-    os.mkdir(folder)
-    for number, data in enumerate(logs, 1):
-        write_file(path_of(folder, number), data)
-    return folder
+    return write_folder(folder, {f"log-{number}": data for number, data in enumerate(logs, 1)})
+
+
+def events_in(folder, number):
+    """The events of a log: the moment of each, and its words."""
+    _, *records = pieces(read_file(path_of(folder, number)))
+    return [(int(piece.words[0]), piece.words[2:]) for piece in records]
 
 
 def records_in(folder):
