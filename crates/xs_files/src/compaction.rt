@@ -130,8 +130,10 @@ fn compact_listed<R: Files<File = File> + Copy + Drop>(
     remove_unfinished(rt, alloc, folder, &listing);
     let first = listing.first();
     if listing.last <= first {
-        // What an earlier compaction couldn't remove.
-        remove_below(rt, alloc, folder, listing.least.max(1), listing.snapshot);
+        // What an earlier compaction couldn't remove. It may have been killed before the name of its snapshot was kept.
+        if sync_folder(rt, folder).is_ok() {
+            remove_below(rt, alloc, folder, listing.least.max(1), listing.snapshot);
+        }
         return Ok(None);
     }
     make_snapshot(rt, alloc, folder, listing, progress)?;
