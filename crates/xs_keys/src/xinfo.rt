@@ -9,7 +9,7 @@ ghost use Rattle.xs_group.specs.GroupState.{greatest_count};
 ghost use Rattle.xs_keys.specs.KeysRoom.{key_state_of};
 ghost use Rattle.xs_keys.specs.ReplyParts.{array};
 ghost use Rattle.xs_keys.specs.Inspecting.{size_part, past_part, ends_part, end_reply, end_id, stream_reply};
-ghost use Rattle.xs_keys.specs.Inspecting.{members_part, read_reply, progress_part, group_reply, groups_reply};
+ghost use Rattle.xs_keys.specs.Inspecting.{members_part, lag_of, read_reply, progress_part, group_reply, groups_reply};
 ghost use Rattle.xs_keys.specs.Inspecting.{consumer_reply, consumers_reply};
 ghost use Rattle.xs_keys.specs.Step.{Step, StepAtAnyTime};
 
@@ -61,15 +61,16 @@ fn push_members(tokens: &mut Tokens, name: &Bytes, group: &Group) -> Result<(), 
     push_number(tokens, b"pending", group.count_pending())
 }
 
-/// Appends how many entries a group with this cursor has behind it, or the null string if it tells no number.
-fn push_read(tokens: &mut Tokens, stream: &Stream, cursor: Id) -> Result<(), AllocError>
+/// Appends how many entries a group with this cursor has behind it, or the null string if it tells no number. So many are
+/// past the cursor.
+fn push_read(tokens: &mut Tokens, stream: &Stream, cursor: Id, lag: u64) -> Result<(), AllocError>
+    requires { lag ≡ lag_of (state_of stream.now) cursor }
     ensures { OnOk result (tokens.new ≡ tokens.old ++ tokens_of (read_reply (state_of stream.now) cursor)) }
 {
     if cursor == Id::ZERO || stream.top() < cursor || cursor < stream.deleted() {
         return tokens.push_null_bulk();
     }
-    let ahead = u128::from(stream.count_past(cursor));
-    let read = stream.added().saturating_sub(ahead);
+    let read = stream.added().saturating_sub(u128::from(lag));
     tokens.push_int(U63::new(told_number(read)))
 }
 
@@ -83,11 +84,12 @@ pub(crate) fn push_progress(
     ensures { OnOk result (tokens.new ≡ tokens.old
         ++ flat_map tokens_of (progress_part (state_of stream.now) cursor)) }
 {
+    let lag = stream.count_past(cursor);
     tokens.push_bulk(b"last-delivered-id")?;
     push_id(tokens, alloc, cursor)?;
     tokens.push_bulk(b"entries-read")?;
-    push_read(tokens, stream, cursor)?;
-    push_number(tokens, b"lag", stream.count_past(cursor))
+    push_read(tokens, stream, cursor, lag)?;
+    push_number(tokens, b"lag", lag)
 }
 
 /// Appends a group of a stream.
