@@ -4,17 +4,17 @@ file, in one run.
 
     compaction.py [--only size,pauses,restart] [--jobs N] [--entries N] [--rate N] [--runs N] [--folder FOLDER] PROGRAM
 
-It needs redis-server, redis-cli and cc.
+It needs redis-server and cc.
 
 size: so many jobs of 100 bytes are added, read, acknowledged and deleted, with 1,000 waiting at any time, while
-`PROGRAM compact` is called whenever the closed logs have more bytes than the snapshot and than 64 MiB; Redis rewrites by
-itself, as it does if nothing is set. The greatest sizes of both folders are told.
-pauses: so many entries of 115 bytes, which can't be compressed, stand in closed logs. So many requests a second, half of them XADD, half XREADGROUP,
-each sent at its moment by bench/paced_driver.c, are answered for some seconds, and then while the folder is compacted,
-with nice 19; Redis is asked for BGREWRITEAOF. The latencies of all runs are taken together. With them stands the memory
-of the processes: resident here, private of the child of Redis.
+`PROGRAM compact` is called whenever the closed logs have more bytes than the snapshot, and than 64 MiB; Redis rewrites
+by itself, as it does if nothing is set. The greatest sizes of both folders are told.
+pauses: so many entries of 115 bytes, which can't be compressed, stand in closed logs. So many requests a second over 50
+connections, half of them XADD, half XREADGROUP, each sent at its moment by bench/paced_driver.c, are answered for some
+seconds, and then while the folder is compacted, with nice 19; Redis is asked for BGREWRITEAOF. Each figure is the
+median of the runs. With them stands the memory of the processes: resident here, private of the child of Redis.
 restart: how long a start takes on logs, and on a snapshot and the last log; of Redis on its plain file, and on its base
-file. Ours is from the start of the program to its line that tells how many records it read, that of Redis as it tells it.
+file. Ours is from the start of the program to its line that tells how many records it read; Redis tells its own.
 """
 import argparse
 import base64
@@ -38,7 +38,7 @@ from tcp import HERE, free_port, spread
 WAITING, BATCH = 1000, 100
 # How many entries are added at once.
 FILLED = 500
-CONNECTIONS = 16
+CONNECTIONS = 50
 # How many seconds a reply may take.
 PATIENCE = 60
 # How long requests come before a compaction, in seconds, and how much of that isn't counted.
@@ -279,11 +279,12 @@ def latencies(lines, kind, begin, end):
 
 
 def one_run(asked, words, folder, work, paced):
-    """The latencies of both kinds before a work and during it, how long it took, and the memory of the server before."""
+    """The latencies of both kinds before a work and during it, how long it took, and the memory of the server before it
+    and meanwhile."""
     server = start_loaded(words)
     try:
-        driver = subprocess.Popen([paced, str(server.port), str(CONNECTIONS), str(asked.rate), "600", "s", "g", "v" * SIZE],
-                                  stdout=subprocess.PIPE, text=True)
+        asking = [paced, str(server.port), str(CONNECTIONS), str(asked.rate), "600", "s", "g", "v" * SIZE]
+        driver = subprocess.Popen(asking, stdout=subprocess.PIPE, text=True)
         lines = []
         reader = threading.Thread(target=lambda: lines.extend(driver.stdout))
         reader.start()
@@ -302,27 +303,37 @@ def one_run(asked, words, folder, work, paced):
     return [[latencies(lines, kind, *span) for kind in "ar"] for span in spans], last - first, [before, *used]
 
 
-def at(values, part):
-    return sorted(values)[int(len(values) * part)]
-
-
-def pooled(runs, span, kind):
-    return [late for run in runs for late in run[0][span][kind]]
+def at_parts(values):
+    """In the middle, at 99 % and at 99.9 %."""
+    ordered = sorted(values)
+    return [ordered[int(len(ordered) * part)] for part in (0.5, 0.99, 0.999)]
 
 
 def pause_lines(here, there):
-    """A line for each kind, before and meanwhile: at 99 % and 99.9 % here, of Redis, and the ratios."""
+    """A line for each kind, before and meanwhile: latencies here and of Redis, and the ratios, each the median of the
+    runs."""
+    def cells(rows, form):
+        return " / ".join(f"{statistics.median(row):{form}}" for row in zip(*rows))
+
     for span, when in enumerate(("before", "meanwhile")):
         for kind, name in enumerate(("XADD", "XREADGROUP")):
-            ours, theirs = ([at(pooled(runs, span, kind), part) for part in (0.5, 0.99, 0.999)] for runs in (here, there))
-            by = " / ".join(f"{one / max(other, 1):.2f}" for one, other in zip(ours, theirs))
-            yield (f"| {name}, {when} | {' / '.join(f'{one:,}' for one in ours)} "
-                   f"| {' / '.join(f'{one:,}' for one in theirs)} | {by} | {len(pooled(here, span, kind)):,}, "
-                   f"{len(pooled(there, span, kind)):,} |")
+            ours, theirs = ([at_parts(run[0][span][kind]) for run in runs] for runs in (here, there))
+            by = [[one / max(other, 1) for one, other in zip(*pair)] for pair in zip(ours, theirs)]
+            counts = [statistics.median(len(run[0][span][kind]) for run in runs) for runs in (here, there)]
+            yield (f"| {name}, {when} | {cells(ours, ',.0f')} | {cells(theirs, ',.0f')} | {cells(by, '.2f')} "
+                   f"| {counts[0]:,.0f}, {counts[1]:,.0f} |")
 
 
 def median_memory(runs, place):
     return f"{statistics.median(run[2][place] for run in runs) / 1e6:.0f}"
+
+
+def tell_memory(here, there):
+    took = [spread([run[1] for run in runs], ".1f") for runs in (here, there)]
+    ours, theirs = ([median_memory(runs, place) for place in range(3)] for runs in (here, there))
+    print(f"It took {took[0]} s here, {took[1]} of Redis. MB: the compaction {ours[1]}, the server before {ours[0]}, "
+          f"meanwhile {ours[2]}; the child of Redis {theirs[1]}, its server before {theirs[0]}, meanwhile {theirs[2]}",
+          flush=True)
 
 
 def tell_pauses(asked, paced):
@@ -331,18 +342,15 @@ def tell_pauses(asked, paced):
             here, there = [], []
             for _ in range(asked.runs):
                 with copied(asked, folders[0]) as folder:
-                    words = program_words(asked.program, CONNECTIONS, "--log", os.path.join(folder, "log"), "--sync", ours)
-                    here.append(one_run(asked, words, folder, compact, paced))
+                    log = "--log", os.path.join(folder, "log"), "--sync", ours
+                    here.append(one_run(asked, program_words(asked.program, CONNECTIONS, *log), folder, compact, paced))
                 with copied(asked, folders[1]) as folder:
                     there.append(one_run(asked, redis_words(folder, theirs), folder, rewrite, paced))
-            print(f"\n`--sync {ours}`, `appendfsync {theirs}`, {asked.rate:,} requests a second, latencies in µs in the "
-                  "middle, at 99 % and 99.9 %\n\n| Requests | Here | Redis | Here by Redis | How many, here and there |\n"
+            print(f"\n`--sync {ours}`, `appendfsync {theirs}`, {asked.rate:,} requests a second: latencies in µs in "
+                  "the middle, at 99 % and 99.9 %\n\n| Requests | Here | Redis | Here by Redis | How many in a run |\n"
                   "|---|---|---|---|---|")
             print("\n".join(pause_lines(here, there)))
-            print(f"It took {spread([run[1] for run in here], '.1f')} s here, "
-                  f"{spread([run[1] for run in there], '.1f')} of Redis. MB: the compaction {median_memory(here, 1)}, "
-                  f"the server before {median_memory(here, 0)}, meanwhile {median_memory(here, 2)}; the child of Redis "
-                  f"{median_memory(there, 1)}, its server {median_memory(there, 0)}, {median_memory(there, 2)}", flush=True)
+            tell_memory(here, there)
 
 
 # ---- restart
