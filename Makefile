@@ -15,12 +15,13 @@ run: build
 serve: build
 	@$(PROGRAM) run
 
-# Proves and builds the program, and puts it and its unit for systemd below PREFIX (and DESTDIR, if that is given).
+# Proves and builds the program, and puts it and its units for systemd below PREFIX (and DESTDIR, if that is given).
 PREFIX = /usr/local
+UNITS = xs_server.service xs_server-compact.service
 install: build
 	install -D -m 755 $(PROGRAM) $(DESTDIR)$(PREFIX)/bin/xs_server
-	install -D -m 644 service/xs_server.service $(DESTDIR)$(PREFIX)/lib/systemd/system/xs_server.service
-	sed -i 's,/usr/local,$(PREFIX),' $(DESTDIR)$(PREFIX)/lib/systemd/system/xs_server.service
+	install -D -m 644 -t $(DESTDIR)$(PREFIX)/lib/systemd/system $(addprefix service/,$(UNITS))
+	sed -i 's,/usr/local,$(PREFIX),' $(addprefix $(DESTDIR)$(PREFIX)/lib/systemd/system/,$(UNITS))
 
 # CI. Proves everything from nothing, tries the edits of must-fail/, and runs the tests and the program that
 # it built: the worked cases, the great scripts, connections made at random, and a server as its users run it, bounded,

@@ -38,6 +38,12 @@ def program_words(program, connections, *log):
     return [program, "run", "--port", "PORT", "--workers", str(connections + 8), *log]
 
 
+def logged_words(program, connections, folder, policy):
+    """The words of a server with a log that nobody compacts, as nobody rewrites that of Redis."""
+    return program_words(program, connections, "--log", os.path.join(folder, "log"), "--sync", policy,
+                         "--compact", "never")
+
+
 def redis_words(folder, policy):
     return ["redis-server", "--port", "PORT", "--save", "", "--appendonly", "yes", "--appendfsync", policy,
             "--auto-aof-rewrite-percentage", "0", "--dir", folder, "--logfile", os.path.join(folder, "redis.log")]
@@ -64,14 +70,14 @@ def tell_sync(folder):
 
 def always(asked, folders, connections):
     """A server that syncs before it answers, and Redis that does."""
-    return [program_words(asked.program, connections, "--log", os.path.join(folders[0], "log"), "--sync", "always"),
+    return [logged_words(asked.program, connections, folders[0], "always"),
             redis_words(folders[1], "always")]
 
 
 def without_log(policy):
     """A server with this policy, and one without a log."""
     def servers(asked, folders, connections):
-        return [program_words(asked.program, connections, "--log", os.path.join(folders[0], "log"), "--sync", policy),
+        return [logged_words(asked.program, connections, folders[0], policy),
                 program_words(asked.program, connections)]
 
     return servers
@@ -137,7 +143,7 @@ def fill(words, count, driver):
 def replay_here(asked, folder):
     """How many records a start reads, and in how many seconds."""
     words = [str(free_port()) if word == "PORT" else word
-             for word in program_words(asked.program, 16, "--log", os.path.join(folder, "log"), "--sync", "no")]
+             for word in logged_words(asked.program, 16, folder, "no")]
     began = time.perf_counter()
     child = subprocess.Popen(words, stdout=subprocess.DEVNULL, stderr=subprocess.PIPE, text=True)
     try:
@@ -169,7 +175,7 @@ def replay_of_redis(folder, driver):
 def tell_replay(asked, driver):
     with contextlib.ExitStack() as begun:
         here, there = (begun.enter_context(tempfile.TemporaryDirectory(dir=asked.folder)) for _ in range(2))
-        words = program_words(asked.program, 16, "--log", os.path.join(here, "log"), "--sync", "no")
+        words = logged_words(asked.program, 16, here, "no")
         fill(words, asked.records, driver)
         fill(redis_words(there, "no"), asked.records, driver)
         rates, others = [], []

@@ -63,6 +63,14 @@ def events_at_random(program, seed, count):
     return [event for event, reply in zip(events, replies) if not reply.startswith(b"-")]
 
 
+def commands_at_random(seed, count):
+    """So many commands, but for those whose replies tell the times of rows that were made just now."""
+    made = commands.Maker(seed)
+    drawn = (words_of(" ".join(words)) for words in iter(made.command, None))
+    told = (words for words in drawn if words[0].upper() != b"QUIT" and not {b"CONSUMERS", b"FULL"} & set(words))
+    return list(itertools.islice(told, count))
+
+
 def in_logs(events, cuts):
     """The bytes of logs of these events: each but the first begins at one of these places."""
     ends = [*cuts, len(events)]
@@ -92,7 +100,8 @@ def is_behind(program, folder, events, questions=QUESTIONS):
 
 def contents_at_random(program):
     """Contents at random, with names of zero bytes and great ones, greatest counts and emptied streams: behind a
-    compaction, and behind another one of what was noted since, a start has what all events left."""
+    compaction, and behind another one of what was noted since, a start has what all events left, and goes on with it for
+    1,000 commands."""
     for seed in range(6):
         events = events_at_random(program, f"compact {seed}", 300)
         cuts = sorted(random.Random(seed).sample(range(1, len(events)), 3))
@@ -108,7 +117,7 @@ def contents_at_random(program):
             logs.write_file(logs.path_of(kept, 5), further)
             is_compacted(compact(program, kept), kept, "snapshot-5 in the place of 1 logs")
             assert names(kept) == {"snapshot-5", "log-5"}
-            is_behind(program, kept, events)
+            is_behind(program, kept, events, [*WHOLE, *commands_at_random(f"behind {seed}", 1000), *WHOLE])
 
 
 def beside_a_server(program):

@@ -6,10 +6,11 @@
 It is killed while clients that keep books are at work (conformance/books.py), N times, 30 if not given, and 20 times
 beside compactions (compaction_kills.py); behind half of the former kills the log loses what no sync had kept, as if the
 machine had stopped. conformance/kept.py has the cases of syncs and of room, bad_folders.py those of folders and logs
-that aren't right, crash_points.py cuts a log at each record, compaction.py has those of snapshots, folder_crashes.py
-stops the machine at each change of a folder, refused_logs.py refuses memory, and kept_log.py starts it on a log that an
-earlier program made. It needs Python's standard library, and a C compiler for the libraries that are loaded into it.
-What is at random has a fixed seed. The last line is 'N passed, M failed'; the status is 1 if M > 0.
+that aren't right, crash_points.py cuts a log at each record, compaction.py has those of snapshots, due_compactions.py
+those that nobody asks for, folder_crashes.py stops the machine at each change of a folder, refused_logs.py refuses
+memory, and kept_log.py starts it on a log that an earlier program made. It needs Python's standard library, and a C
+compiler for the libraries that are loaded into it. What is at random has a fixed seed. The last line is 'N passed, M
+failed'; the status is 1 if M > 0.
 """
 import argparse
 import os
@@ -27,6 +28,7 @@ import commands
 import compaction
 import compaction_kills
 import crash_points
+import due_compactions
 import folder_crashes
 import full_queue
 import kept
@@ -41,7 +43,7 @@ from great import array, bulk, entry, number
 from journal import torn
 from logged import NEXT, is_refusal, kill_while_it_starts, last_log, logged, new_folder, read_at_start, start
 from real_redis import read_reply, request
-from served import MOST_FAULTS, all_answer, asking, passes, raw, read_to_end, say, say_at, tell
+from served import MOST_FAULTS, all_answer, asking, pass_together, passes, raw, read_to_end, say, say_at, tell
 from states import idle_times, without_times
 from waiting import NOTHING, READ, Clients, add, begin, comes, gives, make, nothing_comes, reading, refuses
 
@@ -325,7 +327,8 @@ def two_logs(program):
     read; if there is no memory for it the start is refused, and nothing is changed."""
     value, count = b"v" * 1_000_000, 70
     with syncs.counted() as told, new_folder() as folder:
-        with logged(program, folder, "no", environment=told.environment) as server, Connection(server.port) as one:
+        with (logged(program, folder, "no", compact="never", environment=told.environment) as server,
+              Connection(server.port) as one):
             for place in range(1, count + 1):
                 one.ask("XADD", "s", f"{place}-0", "f", value)
             server.child.kill()
@@ -337,7 +340,7 @@ def two_logs(program):
         files = [os.stat(logs.path_of(folder, place)) for place in (1, 2)]
         limits = served.with_limits({resource.RLIMIT_AS: 64 * MEGABYTE})
         is_refusal(start(program, folder, before=limits), folder, "log-[12] out of memory")
-        with logged(program, folder) as server, Connection(server.port) as one:
+        with logged(program, folder, compact="never") as server, Connection(server.port) as one:
             assert read_at_start(server, folder) == (count, 0)
             assert one.ask("XLEN", "s") == count
             for place in (1, 67, count):
@@ -412,9 +415,12 @@ def main():
 
     with_kills = [killing(killed_under_load, given.kills or 30),
                   killing(compaction_kills.killed_beside_compactions, given.kills or 20)]
-    cases = [case for case in (*CASES, *with_kills) if not given.only or case.__name__ in given.only.split(",")]
-    results = []
-    for case in cases:
+
+    def asked(cases):
+        return [case for case in cases if not given.only or case.__name__ in given.only.split(",")]
+
+    results = pass_together(asked(due_compactions.AT_ONCE), given.program)
+    for case in asked((*CASES, *with_kills)):
         if results.count(False) < MOST_FAULTS:
             results.append(passes(case, given.program))
     return tell(results)

@@ -242,7 +242,8 @@ def the_next_log_is_kept(program):
         with logged(program, folder, "no") as server, Connection(server.port) as one:
             for place in range(1, 67):
                 one.ask("XADD", "s", f"{place}-0", "f", value)
-        with logged(program, folder, "second", environment=told.environment) as server, Connection(server.port) as one:
+        with (logged(program, folder, "second", compact="never", environment=told.environment) as server,
+              Connection(server.port) as one):
             assert logs.numbers(folder) == [1] and told.kept(folder) == 0
             for place in (67, 68, 69):
                 one.ask("XADD", "s", f"{place}-0", "f", value)

@@ -35,15 +35,16 @@ def last_log(folder):
     return logs.path_of(folder, logs.numbers(folder)[-1])
 
 
-def options_of(folder, sync):
-    """The words that keep a log in this folder, with this policy, or with that which nobody names."""
-    return ("--log", folder, *(("--sync", sync) if sync else ()))
+def options_of(folder, sync, compact=None):
+    """The words that keep a log in this folder, with these policies, or with those which nobody names."""
+    return ("--log", folder, *(("--sync", sync) if sync else ()), *(("--compact", compact) if compact else ()))
 
 
 @contextlib.contextmanager
-def logged(program, folder, sync="always", workers=WORKERS, bound="0", **how):
+def logged(program, folder, sync="always", workers=WORKERS, bound="0", compact=None, **how):
     """A new server that keeps a log in this folder, which ends with the block. Its queues may hold so much."""
-    with running(program, *options_of(folder, sync), "--max-memory", bound, workers=workers, **how) as server:
+    options = options_of(folder, sync, compact)
+    with running(program, *options, "--max-memory", bound, workers=workers, **how) as server:
         yield server
 
 

@@ -781,7 +781,8 @@ def tells_of_itself(program):
         for word in ("--help", "-h", "help"):
             done = run([program, *before, word])
             assert (done.returncode, done.stderr) == (0, b"") and done.stdout, (before, word, done)
-            options = ("--port", "--bind", "--workers", "--idle", "--open", "--max-memory", "--log", "--password-file") if before == ["run"] else ()
+            options = ("--port", "--bind", "--workers", "--idle", "--open", "--max-memory", "--log", "--compact",
+                       "--password-file") if before == ["run"] else ()
             assert all(option.encode() in done.stdout for option in options), (before, word, done.stdout)
     done = run([program, "--version"])
     assert (done.returncode, done.stderr) == (0, b""), done

@@ -5,6 +5,7 @@ ghost use Rattle.xs_keys.specs.Event.{Event};
 ghost use Rattle.xs_replay.specs.After.{contents_after, moment_after};
 ghost use Rattle.xs_files.specs.Start.{IsStart};
 
+use crate::due::sizes_of;
 use crate::fault::FolderFault;
 use crate::folder::{sync_folder, take_compaction_lock};
 use crate::listing::{Listing, list_whole};
@@ -118,6 +119,31 @@ fn make_snapshot<R: Files<File = File> + Copy + Drop>(
     made
 }
 
+/// Compacts a folder that nobody else compacts, and that has this.
+fn compact_listed<R: Files<File = File> + Copy + Drop>(
+    rt: &R,
+    alloc: Global,
+    folder: &str,
+    listing: Listing,
+    progress: &Arc<Progress>,
+) -> Result<Option<Compaction>, FolderFault> {
+    remove_unfinished(rt, alloc, folder, &listing);
+    let first = listing.first();
+    if listing.last <= first {
+        // What an earlier compaction couldn't remove. It may have been killed before the name of its snapshot was kept.
+        if sync_folder(rt, folder).is_ok() {
+            remove_below(rt, alloc, folder, listing.least.max(1), listing.snapshot);
+        }
+        return Ok(None);
+    }
+    make_snapshot(rt, alloc, folder, listing, progress)?;
+    remove_below(rt, alloc, folder, listing.least, listing.last);
+    Ok(Some(Compaction {
+        number: listing.last,
+        logs: listing.last - first,
+    }))
+}
+
 /// Compacts a folder of logs, which a server may be using: a snapshot of what its closed logs have left is written, from
 /// the greatest snapshot and the closed logs behind it, and once it is kept they are removed. The last log is neither
 /// read nor changed. It gives None if no log is closed. The progress tells how many bytes were read.
@@ -132,17 +158,23 @@ pub fn compact_folder<R: Files<File = File> + AllocGlobal + Copy + Drop>(
     let alloc = rt.alloc();
     let _lock = take_compaction_lock(rt, alloc, folder)?;
     let listing = list_whole(rt, folder)?;
-    remove_unfinished(rt, alloc, folder, &listing);
-    let first = listing.first();
-    if listing.last <= first {
-        // What an earlier compaction couldn't remove.
-        remove_below(rt, alloc, folder, listing.least.max(1), listing.snapshot);
+    compact_listed(rt, alloc, folder, listing, progress)
+}
+
+/// The same, but only if it is due. It gives None if it isn't.
+///
+/// # Errors
+/// Those of `compact_folder`.
+pub fn compact_if_due<R: Files<File = File> + AllocGlobal + Copy + Drop>(
+    rt: &R,
+    folder: &str,
+    progress: &Arc<Progress>,
+) -> Result<Option<Compaction>, FolderFault> {
+    let alloc = rt.alloc();
+    let _lock = take_compaction_lock(rt, alloc, folder)?;
+    let listing = list_whole(rt, folder)?;
+    if !sizes_of(rt, alloc, folder, &listing)?.is_due() {
         return Ok(None);
     }
-    make_snapshot(rt, alloc, folder, listing, progress)?;
-    remove_below(rt, alloc, folder, listing.least, listing.last);
-    Ok(Some(Compaction {
-        number: listing.last,
-        logs: listing.last - first,
-    }))
+    compact_listed(rt, alloc, folder, listing, progress)
 }

@@ -1,7 +1,7 @@
 //! The files of a folder as a tape. That they are one is trusted: no contract can say what a file holds.
 ghost use Rattle.std.specs.Prelude.{◌≡◌, None, false, is_err, IfOk};
 
-use crate::folder::sync_folder;
+use crate::folder::{FolderLock, sync_folder};
 use crate::names::log_path;
 use crate::syncing::{Beside, SyncPolicy, Syncer};
 use std::alloc::{AllocError, Global};
@@ -17,8 +17,8 @@ pub struct FileTape<R: Files<File = File> + Copy + Drop> {
     rt: R,
     alloc: Global,
     folder: String,
-    // It is held for the lock that goes with it.
-    lock: File,
+    // It is held as long as the tape.
+    lock: FolderLock,
     file: File,
     number: u64,
     size: u64,
@@ -58,7 +58,7 @@ impl<R: Files<File = File> + Copy + Drop> FileTape<R> {
         rt: &R,
         alloc: Global,
         folder: &str,
-        lock: File,
+        lock: FolderLock,
         file: File,
         number: u64,
         size: u64,

@@ -44,7 +44,7 @@ fn make<R: Files<File = File>>(rt: &R, folder: &str) -> Result<(), FolderFault> 
 }
 
 /// Makes a folder if only it is missing.
-pub fn make_if_missing<R: Files<File = File>>(rt: &R, folder: &str) -> Result<(), FolderFault> {
+fn make_if_missing<R: Files<File = File>>(rt: &R, folder: &str) -> Result<(), FolderFault> {
     match fs::metadata(rt, folder) {
         Ok(found) if found.is_dir() => Ok(()),
         Ok(_) => Err(FolderFault::NoFolder),
@@ -94,16 +94,28 @@ fn try_lock(file: File, taken: FolderFault) -> Result<File, FolderFault> {
     }
 }
 
-/// Takes the lock of a folder. The system gives it back when the file is closed.
-pub fn take_lock<R: Files<File = File>>(
-    rt: &R,
-    alloc: Global,
-    folder: &str,
-) -> Result<File, FolderFault> {
-    try_lock(open_lock(rt, alloc, folder, LOCK)?, FolderFault::InUse)
+/// The lock of a folder. The system gives it back when this is dropped.
+#[derive(Drop)]
+pub struct FolderLock {
+    file: File,
 }
 
-/// Takes the lock of compaction, which removes files. It is given back as the lock of the folder is.
+/// Makes a folder if only it is missing, and locks it: no other server opens it until the lock is dropped.
+///
+/// # Errors
+/// A `FolderFault`: `InUse` if another server has it. Nothing in it was changed then.
+pub fn lock_folder<R: Files<File = File> + AllocGlobal>(
+    rt: &R,
+    folder: &str,
+) -> Result<FolderLock, FolderFault> {
+    make_if_missing(rt, folder)?;
+    let file = open_lock(rt, rt.alloc(), folder, LOCK)?;
+    Ok(FolderLock {
+        file: try_lock(file, FolderFault::InUse)?,
+    })
+}
+
+/// Takes the lock of compaction, which removes files. The system gives it back when the file is closed.
 pub fn take_compaction_lock<R: Files<File = File>>(
     rt: &R,
     alloc: Global,

@@ -2,6 +2,9 @@
 #![tactic(auto)]
 
 pub mod compaction;
+pub mod compaction_state;
+pub mod compactor;
+pub mod due;
 pub mod fault;
 pub mod file_source;
 pub mod file_tape;
@@ -17,8 +20,11 @@ pub mod snapshot_file;
 pub mod syncing;
 
 pub use compaction::{Compaction, compact_folder};
+pub use compaction_state::CompactionState;
+pub use compactor::{CompactPolicy, Compactor};
 pub use fault::FolderFault;
 pub use file_tape::FileTape;
+pub use folder::{FolderLock, lock_folder};
 pub use opening::{OpenedFolder, open_folder};
 pub use progress::Progress;
 pub use syncing::{SyncPolicy, Syncer};

@@ -6,7 +6,7 @@ ghost use Rattle.xs_files.specs.Start.{IsStart};
 
 use crate::fault::FolderFault;
 use crate::file_tape::{FileTape, make_log};
-use crate::folder::{make_if_missing, take_lock, wait_for_compaction};
+use crate::folder::{FolderLock, wait_for_compaction};
 use crate::last_log::open_last;
 use crate::listing::{Listing, list_whole};
 use crate::progress::Progress;
@@ -72,7 +72,7 @@ fn go_on<R: Files<File = File> + Copy + Drop>(
     rt: &R,
     alloc: Global,
     folder: &str,
-    lock: File,
+    lock: FolderLock,
     file: File,
     number: u64,
     whole: u64,
@@ -96,7 +96,7 @@ fn begin_first<R: Files<File = File> + Copy + Drop>(
     rt: &R,
     alloc: Global,
     folder: &str,
-    lock: File,
+    lock: FolderLock,
     policy: SyncPolicy,
 ) -> Result<OpenedFolder<R>, FolderFault>
     ensures start { IfOk result (λ opened. (moment : Option ℕ) × IsStart opened.first.value moment) }
@@ -122,15 +122,16 @@ fn begin_first<R: Files<File = File> + Copy + Drop>(
     })
 }
 
-/// Opens a folder of logs, and locks it. It is made if only it is missing. Its greatest snapshot is read, and the logs
-/// behind it, which the progress tells meanwhile, and what a crash has torn of the last one is cut. If the folder is
-/// being compacted, this waits for that.
+/// Opens a folder of logs, whose lock this is. Its greatest snapshot is read, and the logs behind it, which the progress
+/// tells meanwhile, and what a crash has torn of the last one is cut. If the folder is being compacted, this waits for
+/// that.
 ///
 /// # Errors
 /// A `FolderFault`, and no byte of a log was changed but behind the whole records of the last one.
 pub fn open_folder<R: Files<File = File> + AllocGlobal + Copy + Drop>(
     rt: &R,
     folder: &str,
+    lock: FolderLock,
     policy: SyncPolicy,
     progress: &Arc<Progress>,
 ) -> Result<OpenedFolder<R>, FolderFault>
@@ -142,8 +143,6 @@ pub fn open_folder<R: Files<File = File> + AllocGlobal + Copy + Drop>(
         ⟦<TapeLog<FileTape<R>> as EventLog>⟧.has opened.log events (length events)) }
 {
     let alloc = rt.alloc();
-    make_if_missing(rt, folder)?;
-    let lock = take_lock(rt, alloc, folder)?;
     let _compaction = wait_for_compaction(rt, alloc, folder)?;
     let listing = list_whole(rt, folder)?;
     remove_unfinished(rt, alloc, folder, &listing);

@@ -114,6 +114,15 @@ pub record Inspections : Type 0 where
       ∷ group (codes "m") 1 0 (id 1 0) NullBulk 1 ∷ [])) ∷
       at 7 (codes "XINFO GROUPS t") (Error MissingKey) ∷
       []))
+  -- a group that has read one of three entries, of which none was deleted
+  pub a_group_that_has_read_a_part : IsPlayed (
+      at 1 (codes "XADD s 1-0 f v") (id 1 0) ∷
+      at 1 (codes "XADD s 2-0 f v") (id 2 0) ∷
+      at 1 (codes "XADD s 3-0 f v") (id 3 0) ∷
+      at 1 (codes "XGROUP CREATE s a 0") ok ∷
+      at 2 (codes "XREADGROUP GROUP a b COUNT 1 STREAMS s >") (array (stream (codes "s") (entry 1 0 ∷ []) ∷ [])) ∷
+      at 3 (codes "XINFO GROUPS s") (array (group (codes "a") 1 1 (id 1 0) (Int 1) 2 ∷ [])) ∷
+      [])
   -- a group that has read
   pub a_group_that_has_read : IsPlayed (before ++ (both_read ++ (
       at 9 (codes "XINFO GROUPS s")

@@ -13,7 +13,7 @@ use std::convert::AsStr;
 use std::io::{Eprint, ErrorKind as IoErrorKind};
 use std::net::IpAddr;
 use std::str::FromStr;
-use xs_files::SyncPolicy;
+use xs_files::{CompactPolicy, SyncPolicy};
 
 /// What `serve` is told.
 #[derive(Clone, Copy, Debug, PartialEq, Eq)]
@@ -33,6 +33,8 @@ pub struct LogOptions {
     pub folder: String,
     /// When the log is synced.
     pub policy: SyncPolicy,
+    /// When the folder is compacted.
+    pub compact: CompactPolicy,
 }
 
 /// What `run` is told.
@@ -54,6 +56,15 @@ pub struct RunOptions {
     pub password_file: Option<String>,
 }
 
+/// What `compact` is told.
+#[derive(Debug, Drop)]
+pub struct CompactOptions {
+    /// The folder of the log's files.
+    pub folder: String,
+    /// Whether it goes on, and compacts each time that it is due.
+    pub watches: bool,
+}
+
 /// What the command line asks for.
 #[derive(Debug, Drop)]
 pub enum Asked {
@@ -63,8 +74,8 @@ pub enum Asked {
     Serve(ServeOptions),
     /// To serve connections up to a signal.
     Run(RunOptions),
-    /// To compact this folder of logs.
-    Compact(String),
+    /// To compact a folder of logs.
+    Compact(CompactOptions),
     /// A text of help, or the version, which is printed.
     Text,
     /// Nothing that the program does. The text that says so is printed.
@@ -92,9 +103,15 @@ const NO_BYTES: &str =
 
 const NO_POLICY: &str = "error: the value of --sync is none of always, second and no\n";
 
+const NO_COMPACT_POLICY: &str =
+    "error: the value of --compact is none of serving, start and never\n";
+
 const NO_FOLDER: &str = "error: the value of --log is empty\n";
 
 const NO_LOG: &str = "error: --sync says when a log is synced, and there is no --log\n";
+
+const NOTHING_TO_COMPACT: &str =
+    "error: --compact says when the folder of a log is compacted, and there is no --log\n";
 
 const NOT_OPEN: &str =
     "error: whoever reaches --bind beyond loopback may do all: add --password-file, or --open if that is meant\n";
@@ -168,6 +185,20 @@ fn option_with_default<'a>(
         .help(help)
 }
 
+/// A command with the options of a log.
+fn with_log_options<'a>(alloc: Global, command: Command<'a>) -> Result<Command<'a>, AllocError> {
+    let log = Arg::new(alloc, "log").long("log").value_name("FOLDER").help(
+        "Keeps all in the files of this folder, which a restart reads",
+    );
+    let sync = Arg::new(alloc, "sync").long("sync").help(
+        "When the log is synced: always before an answer (the default), each second, or no",
+    );
+    let compact = Arg::new(alloc, "compact").long("compact").help(
+        "When the closed logs of the folder are compacted: serving (the default), start, or never",
+    );
+    command.arg(log)?.arg(sync)?.arg(compact)
+}
+
 /// The command `run`.
 fn run_command<'a>(alloc: Global) -> Result<Command<'a>, AllocError> {
     let port = value_parser!(u16).range(1..);
@@ -183,12 +214,6 @@ fn run_command<'a>(alloc: Global) -> Result<Command<'a>, AllocError> {
         .default_value("0")
         .allow_negative_numbers(true)
         .help("Refuses additions beyond so many bytes, such as 64m or 2g; 0 is no bound");
-    let log = Arg::new(alloc, "log").long("log").value_name("FOLDER").help(
-        "Keeps all in the files of this folder, which a restart reads",
-    );
-    let sync = Arg::new(alloc, "sync").long("sync").help(
-        "When the log is synced: always before an answer (the default), each second, or no",
-    );
     let password_file = Arg::new(alloc, "password-file")
         .long("password-file")
         .value_name("FILE")
@@ -197,7 +222,7 @@ fn run_command<'a>(alloc: Global) -> Result<Command<'a>, AllocError> {
         .long("open")
         .action(ArgAction::SetTrue)
         .help("Lets --bind be an address that others reach without a password");
-    Command::new(alloc, "run")
+    let command = Command::new(alloc, "run")
         .about(ABOUT_RUN)
         .arg(option_with_default(alloc, "port", port, "6379", "The port, 1 to 65535"))?
         .arg(bind)?
@@ -217,9 +242,8 @@ fn run_command<'a>(alloc: Global) -> Result<Command<'a>, AllocError> {
         ))?
         .arg(open)?
         .arg(password_file)?
-        .arg(max_memory)?
-        .arg(log)?
-        .arg(sync)
+        .arg(max_memory)?;
+    with_log_options(alloc, command)
 }
 
 /// The command `compact`.
@@ -228,9 +252,14 @@ fn compact_command<'a>(alloc: Global) -> Result<Command<'a>, AllocError> {
         .value_name("FOLDER")
         .required(true)
         .help("The folder that run --log keeps its log in");
+    let watch = Arg::new(alloc, "watch")
+        .long("watch")
+        .action(ArgAction::SetTrue)
+        .help("Goes on until it is ended, and compacts each time that it is due");
     Command::new(alloc, "compact")
         .about(ABOUT_COMPACT)
-        .arg(folder)
+        .arg(folder)?
+        .arg(watch)
 }
 
 /// The program with all its commands.
@@ -285,16 +314,30 @@ fn policy_of(matches: &ArgMatches) -> Result<SyncPolicy, &'static str> {
     }
 }
 
+/// When the folder of the log of `run` is compacted, or what is wrong with the words that say it.
+fn compact_policy_of(matches: &ArgMatches) -> Result<CompactPolicy, &'static str> {
+    match matches.get_str("compact") {
+        None => Ok(CompactPolicy::Serving),
+        Some(_) if matches.get_str("log").is_none() => Err(NOTHING_TO_COMPACT),
+        Some("serving") => Ok(CompactPolicy::Serving),
+        Some("start") => Ok(CompactPolicy::Start),
+        Some("never") => Ok(CompactPolicy::Never),
+        Some(_) => Err(NO_COMPACT_POLICY),
+    }
+}
+
 /// The log of `run`, if the words behind it name one.
 fn log_of(
     alloc: Global,
     matches: &ArgMatches,
     policy: SyncPolicy,
+    compact: CompactPolicy,
 ) -> Result<Option<LogOptions>, AllocError> {
     match matches.get_str("log") {
         Some(folder) => Ok(Some(LogOptions {
             folder: String::from_str(alloc, folder)?,
             policy,
+            compact,
         })),
         None => Ok(None),
     }
@@ -348,7 +391,7 @@ fn options_of(matches: &ArgMatches) -> Option<ServeOptions>
 enum Others {
     Serve(ServeOptions),
     Run(RunOptions),
-    Compact(String),
+    Compact(CompactOptions),
     /// Nothing, and this is why.
     Refused(&'static str),
     Nothing,
@@ -366,7 +409,10 @@ fn parse_others<S: AsStr>(alloc: Global, words: &[S]) -> Result<Others, Error> {
     }
     if let Some(found) = matches.subcommand_matches("compact") {
         return Ok(match found.get_str("folder") {
-            Some(folder) => Others::Compact(String::from_str(alloc, folder)?),
+            Some(folder) => Others::Compact(CompactOptions {
+                folder: String::from_str(alloc, folder)?,
+                watches: found.get_flag("watch"),
+            }),
             None => Others::Nothing,
         });
     }
@@ -390,7 +436,11 @@ fn parse_run(alloc: Global, matches: &ArgMatches) -> Result<Others, Error> {
         Ok(policy) => policy,
         Err(text) => return Ok(Others::Refused(text)),
     };
-    let log = log_of(alloc, matches, policy)?;
+    let compact = match compact_policy_of(matches) {
+        Ok(compact) => compact,
+        Err(text) => return Ok(Others::Refused(text)),
+    };
+    let log = log_of(alloc, matches, policy, compact)?;
     let password_file = password_file_of(alloc, matches)?;
     Ok(
         match run_options_of(matches, bind, max_memory, log, password_file) {
@@ -416,7 +466,7 @@ fn read_others(rt: &HostRuntime, words: &[String]) -> Asked
     let error = match parse_with_help(rt.alloc(), words) {
         Ok(Others::Serve(options)) => return Asked::Serve(options),
         Ok(Others::Run(options)) => return Asked::Run(options),
-        Ok(Others::Compact(folder)) => return Asked::Compact(folder),
+        Ok(Others::Compact(options)) => return Asked::Compact(options),
         Ok(Others::Refused(text)) => {
             let _ = rt.eprint(&text);
             return Asked::Nothing;

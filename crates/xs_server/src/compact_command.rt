@@ -1,19 +1,21 @@
 //! The program's command `compact`.
-ghost use Rattle.std.specs.Prelude.{◌≤◌};
+ghost use Rattle.std.specs.Prelude.{◌≡◌, ◌≤◌};
 
+use crate::compacting::{compact_each_second, compaction_line};
 use crate::logged_command::report_folder;
 use crate::report::report_memory;
 use std::alloc::{AllocError, Global};
-use std::sync::Arc;
+use std::sync::{Arc, Wait};
+use std::thread::Threads;
+use std::time::Clock;
 use xs_devices::{Sink, write_all};
-use xs_files::{Compaction, Progress, compact_folder};
+use xs_files::listing::list;
+use xs_files::{Compaction, Compactor, Progress, compact_folder};
 
-/// The line that says what a compaction has done.
+/// The line that says what became of a compaction.
 fn done_line(alloc: Global, folder: &str, done: Option<Compaction>) -> Result<String, AllocError> {
     match done {
-        Some(Compaction { number, logs }) => format!(in alloc;
-            "xs_server: log {folder}: snapshot-{number} in the place of {logs} logs\n"
-        ),
+        Some(compaction) => compaction_line(alloc, folder, compaction),
         None => format!(in alloc; "xs_server: log {folder}: no log is closed\n"),
     }
 }
@@ -34,6 +36,36 @@ pub fn compact_and_report<E: Sink>(files: &HostRuntime, folder: &str, errors: &m
         Ok(line) => {
             let _ = write_all(errors, line.as_bytes());
             0
+        }
+        Err(AllocError) => report_memory(errors),
+    }
+}
+
+/// What compacts a folder of logs.
+fn compactor_of(alloc: Global, folder: &str) -> Result<Compactor, AllocError> {
+    let progress = Arc::new(alloc, Progress::new())?;
+    Compactor::new(alloc, folder, &progress)
+}
+
+/// Compacts a folder of logs each time that it is due, up to a signal, and says on `errors` what was done, or why not.
+/// It gives the status of the program: 1 if there is no such folder, or no memory at the start.
+pub fn watch_and_report<E: Sink, R: Threads + Wait + Clock>(
+    rt: &R,
+    files: &HostRuntime,
+    folder: &str,
+    errors: &mut E,
+) -> u8
+    ensures { result ≡ 1 }
+{
+    let alloc = files.alloc();
+    if let Err(fault) = list(files, folder) {
+        return report_folder(alloc, folder, fault, errors);
+    }
+    match compactor_of(alloc, folder) {
+        Ok(compactor) => {
+            let mut compactor = compactor;
+            compact_each_second(rt, files, &mut compactor, errors);
+            1
         }
         Err(AllocError) => report_memory(errors),
     }

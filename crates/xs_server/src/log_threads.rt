@@ -1,14 +1,15 @@
-//! The threads beside a log: one tells how far it is read, and one syncs it.
+//! The threads beside a log: one tells how far it is read, one syncs it, and one compacts its folder.
+use crate::compacting::compact_each_second;
 use std::alloc::{AllocError, Global};
 use std::sync::atomic::{AtomicBool, Ordering};
 use std::sync::{Arc, Wait};
 use std::thread;
 use std::thread::Threads;
 use std::time::{Clock, Duration};
-use xs_devices::{Sink, write_all};
-use xs_files::{Progress, Syncer};
+use xs_devices::{Sink, ToWrite, write_all};
+use xs_files::{Compactor, Progress, Syncer};
 
-/// How often they come back.
+/// How often the first two come back.
 const SECONDS: u64 = 1;
 
 /// A thread that tells how far a log is read.
@@ -90,6 +91,25 @@ pub fn start_syncing<R: Threads + Wait + Clock + Copy + Send + Drop + 'static>(
     let handle = *rt;
     let mut syncer = syncer;
     match thread::spawn(rt, move || sync_each_second(&handle, &files, &mut syncer)) {
+        Ok(_) => Ok(()),
+        Err(_) => Err(AllocError),
+    }
+}
+
+/// Starts the thread that compacts the folder of a log, and says on standard error what became of it. The end of the
+/// program doesn't wait for it.
+pub fn start_compacting<R: Threads + Wait + Clock + Copy + Send + Drop + 'static>(
+    rt: &R,
+    files: HostRuntime,
+    compactor: Compactor,
+) -> Result<(), AllocError> {
+    let handle = *rt;
+    let mut compactor = compactor;
+    let mut out = ToWrite::new(files.stderr());
+    match thread::spawn(
+        rt,
+        move || compact_each_second(&handle, &files, &mut compactor, &mut out),
+    ) {
         Ok(_) => Ok(()),
         Err(_) => Err(AllocError),
     }

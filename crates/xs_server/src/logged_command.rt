@@ -4,7 +4,8 @@ ghost use Rattle.xs_keys.specs.Event.{Event};
 ghost use Rattle.xs_replay.specs.After.{contents_after};
 
 use crate::command_line::{LogOptions, RunOptions};
-use crate::log_threads::{start_syncing, start_telling};
+use crate::compacting::compact_and_say;
+use crate::log_threads::{start_compacting, start_syncing, start_telling};
 use crate::report::{report_memory, report_text, report_work};
 use crate::run_command::{Ready, make_ready};
 use crate::serve_command::DEPTH;
@@ -12,16 +13,20 @@ use std::alloc::{AllocError, Global};
 use std::marker::Model;
 use std::net::{Net, TcpListener, TcpStream};
 use std::snapshot::Snapshot;
-use std::sync::Wait;
+use std::sync::{Arc, Wait};
 use std::thread::Threads;
 use std::time::Clock;
 use xs_clock::WallClock;
 use xs_connection::Password;
 use xs_devices::{Sink, write_all};
-use xs_files::{FileTape, FolderFault, OpenedFolder, SyncPolicy, open_folder};
+use xs_files::{
+    CompactPolicy, CompactionState, Compactor, FileTape, FolderFault, OpenedFolder, Progress,
+    SyncPolicy, lock_folder, open_folder,
+};
 use xs_keys::Keyspace;
 use xs_log::TapeLog;
 use xs_replay::EventLog;
+use xs_tcp::information::LogSettings;
 use xs_work::{Gate, LoggedEnd, Mode, work_logged};
 
 /// How many calls share a write to the log, if it isn't synced for them: the workers of the first ones go on meanwhile.
@@ -81,6 +86,56 @@ fn report_end<E: Sink>(
     }
 }
 
+/// A log that is opened.
+#[derive(Drop)]
+pub struct OpenedLog {
+    /// What its folder gave.
+    pub folder: OpenedFolder<HostRuntime>,
+    /// What is told of its compactions.
+    pub compactions: Arc<CompactionState>,
+}
+
+/// Locks the folder of a log, compacts it if that is due at a start, and opens it.
+fn open_locked<E: Sink, R: Threads>(
+    rt: &R,
+    files: &HostRuntime,
+    log: &LogOptions,
+    progress: &Arc<Progress>,
+    compactor: &mut Compactor,
+    errors: &mut E,
+) -> Result<OpenedFolder<HostRuntime>, FolderFault>
+    ensures content { IfOk result (λ opened. (events : List Event)
+        × (opened.keyspace ≡ contents_after opened.first.value events)) }
+    ensures sound { IfOk result (λ opened.
+        ⟦<TapeLog<FileTape<HostRuntime>> as EventLog>⟧.broken opened.log ≡ false) }
+    ensures has { IfOk result (λ opened. (events : List Event) →
+        ⟦<TapeLog<FileTape<HostRuntime>> as EventLog>⟧.has opened.log events (length events)) }
+{
+    let folder = log.folder.as_str();
+    let lock = lock_folder(files, folder)?;
+    if log.compact == CompactPolicy::Start {
+        compact_and_say(rt, files, compactor, errors);
+    }
+    open_folder(files, folder, lock, log.policy, progress)
+}
+
+/// Starts the threads beside a log that its options ask for, and gives what is told of compactions.
+fn start_beside<R: Threads + Wait + Clock + Copy + Send + Drop + 'static>(
+    rt: &R,
+    files: HostRuntime,
+    log: &LogOptions,
+    opened: &OpenedFolder<HostRuntime>,
+    compactor: Compactor,
+) -> Result<Arc<CompactionState>, AllocError> {
+    let compactions = compactor.state()?;
+    compactions.reads(opened.snapshot);
+    sync_beside(rt, files, &opened.log)?;
+    if log.compact == CompactPolicy::Serving {
+        start_compacting(rt, files, compactor)?;
+    }
+    Ok(compactions)
+}
+
 /// Opens the folder of a log, and says what was read. A thread of its own tells each second how far it is.
 ///
 /// # Errors
@@ -89,19 +144,13 @@ pub fn open_logs<
     W: Sink + Send + Drop + 'static,
     E: Sink,
     R: Threads + Wait + Clock + Copy + Send + Drop + 'static,
->(
-    rt: &R,
-    files: &HostRuntime,
-    log: &LogOptions,
-    out: W,
-    errors: &mut E,
-) -> Result<OpenedFolder<HostRuntime>, u8>
+>(rt: &R, files: &HostRuntime, log: &LogOptions, out: W, errors: &mut E) -> Result<OpenedLog, u8>
     ensures content { IfOk result (λ opened. (events : List Event)
-        × (opened.keyspace ≡ contents_after opened.first.value events)) }
+        × (opened.folder.keyspace ≡ contents_after opened.folder.first.value events)) }
     ensures sound { IfOk result (λ opened.
-        ⟦<TapeLog<FileTape<HostRuntime>> as EventLog>⟧.broken opened.log ≡ false) }
+        ⟦<TapeLog<FileTape<HostRuntime>> as EventLog>⟧.broken opened.folder.log ≡ false) }
     ensures has { IfOk result (λ opened. (events : List Event) →
-        ⟦<TapeLog<FileTape<HostRuntime>> as EventLog>⟧.has opened.log events (length events)) }
+        ⟦<TapeLog<FileTape<HostRuntime>> as EventLog>⟧.has opened.folder.log events (length events)) }
     ensures status { IfErr result (λ status. status ≡ 1) }
 {
     let alloc = files.alloc();
@@ -109,7 +158,11 @@ pub fn open_logs<
     let Ok(telling) = start_telling(rt, alloc, folder, out) else {
         return Err(report_memory(errors));
     };
-    let opened = match open_folder(files, folder, log.policy, &telling.progress) {
+    let Ok(compactor) = Compactor::new(alloc, folder, &telling.progress) else {
+        return Err(report_memory(errors));
+    };
+    let mut compactor = compactor;
+    let opened = match open_locked(rt, files, log, &telling.progress, &mut compactor, errors) {
         Ok(opened) => opened,
         Err(fault) => return Err(report_folder(alloc, folder, fault, errors)),
     };
@@ -124,8 +177,11 @@ pub fn open_logs<
         return Err(report_memory(errors));
     };
     let _ = write_all(errors, line.as_bytes());
-    match sync_beside(rt, *files, &opened.log) {
-        Ok(()) => Ok(opened),
+    match start_beside(rt, *files, log, &opened, compactor) {
+        Ok(compactions) => Ok(OpenedLog {
+            folder: opened,
+            compactions,
+        }),
         Err(_) => Err(report_memory(errors)),
     }
 }
@@ -220,18 +276,36 @@ pub fn run_logged<
     options: &RunOptions,
     log: &LogOptions,
     password: &Option<Password>,
-    opened: OpenedFolder<HostRuntime>,
+    opened: OpenedLog,
     out: W,
     errors: &mut E,
 ) -> u8
-    requires content { (events : List Event) × (opened.keyspace ≡ contents_after opened.first.value events) }
-    requires sound { ⟦<TapeLog<FileTape<HostRuntime>> as EventLog>⟧.broken opened.log ≡ false }
+    requires content { (events : List Event)
+        × (opened.folder.keyspace ≡ contents_after opened.folder.first.value events) }
+    requires sound { ⟦<TapeLog<FileTape<HostRuntime>> as EventLog>⟧.broken opened.folder.log ≡ false }
     requires has { (events : List Event) →
-        ⟦<TapeLog<FileTape<HostRuntime>> as EventLog>⟧.has opened.log events (length events) }
+        ⟦<TapeLog<FileTape<HostRuntime>> as EventLog>⟧.has opened.folder.log events (length events) }
     ensures { result ≡ 1 }
 {
     let alloc = files.alloc();
-    let Ready { gates, patience } = match make_ready(rt, files, options, password, out, errors) {
+    let OpenedLog {
+        folder,
+        compactions,
+    } = opened;
+    let told = LogSettings {
+        sync: log.policy,
+        compact: log.compact,
+        compactions,
+    };
+    let Ready { gates, patience } = match make_ready(
+        rt,
+        files,
+        options,
+        Some(told),
+        password,
+        out,
+        errors,
+    ) {
         Ok(ready) => ready,
         Err(status) => return status,
     };
@@ -245,7 +319,7 @@ pub fn run_logged<
         records,
         dropped: _,
         log: tape_log,
-    } = opened;
+    } = folder;
     let store = Store {
         first,
         keyspace,

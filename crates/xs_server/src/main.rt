@@ -1,11 +1,13 @@
 //! A server of Redis Streams over RESP2. Its command `run` serves connections until it is stopped; its command `compact`
-//! makes a snapshot of the closed logs of a folder; its command `serve` serves so many connections on a port of
-//! 127.0.0.1; its command `script` reads a script on standard input and writes the replies on standard output.
+//! makes a snapshot of the closed logs of a folder, once or each time that it is due; its command `serve` serves so many
+//! connections on a port of 127.0.0.1; its command `script` reads a script on standard input and writes the replies on
+//! standard output.
 #![tactic(auto)]
 
 mod byte_count;
 mod command_line;
 mod compact_command;
+mod compacting;
 mod examples;
 mod log_threads;
 mod logged_command;
@@ -17,7 +19,7 @@ mod serve_command;
 mod version;
 
 use command_line::{Asked, read_command_line};
-use compact_command::compact_and_report;
+use compact_command::{compact_and_report, watch_and_report};
 use logged_command::{open_logs, run_logged};
 use password_file::password_of;
 use report::report_memory;
@@ -66,7 +68,10 @@ fn main(rt: HostRuntime) -> ExitCode {
                 }
             }
         }
-        Asked::Compact(folder) => compact_and_report(&rt, folder.as_str(), &mut errors),
+        Asked::Compact(options) if options.watches => {
+            watch_and_report(&rt, &rt, options.folder.as_str(), &mut errors)
+        }
+        Asked::Compact(options) => compact_and_report(&rt, options.folder.as_str(), &mut errors),
         Asked::Text => 0,
         Asked::Nothing => 2,
         Asked::Memory => report_memory(&mut errors),

@@ -21,7 +21,7 @@ use xs_devices::Sink;
 use xs_tcp::announcement::Announcement;
 use xs_tcp::door::open_door;
 use xs_tcp::hall::Hall;
-use xs_tcp::information::Settings;
+use xs_tcp::information::{LogSettings, Settings};
 use xs_tcp::limits::{OTHER_FILES, open_files, waiting_room};
 use xs_tcp::patience::Patience;
 use xs_tcp::run_gate::{RunGate, again};
@@ -83,14 +83,14 @@ fn ready_line(
     Ok(text.into_bytes())
 }
 
-/// What INFO tells of these options.
-fn settings_of<S: Clock>(system: &S, options: &RunOptions) -> Settings {
+/// What INFO tells of these options, and of a log.
+fn settings_of<S: Clock>(system: &S, options: &RunOptions, log: Option<LogSettings>) -> Settings {
     Settings {
         version: VERSION,
         port: options.port,
         workers: options.workers,
         max_memory: options.max_memory,
-        log: options.log.as_ref().map(|log| log.policy),
+        log,
         started: system.monotonic().unwrap_or(Duration::ZERO),
     }
 }
@@ -123,6 +123,7 @@ pub fn make_ready<
     rt: &R,
     files: &HostRuntime,
     options: &RunOptions,
+    log: Option<LogSettings>,
     password: &Option<Password>,
     out: W,
     errors: &mut E,
@@ -154,7 +155,7 @@ pub fn make_ready<
     let Ok(gates) = gates_of(*rt, alloc, &hall, &announcement, options, password) else {
         return Err(report_memory(errors));
     };
-    let settings = settings_of(rt, options);
+    let settings = settings_of(rt, options, log);
     let Ok(patience) = Patience::new(*rt, *files, gates.as_slice(), settings) else {
         return Err(report_memory(errors));
     };
@@ -187,7 +188,9 @@ pub fn run_server<
 ) -> u8
     ensures served { result ≡ 0 → HasServed (manner.Full password.now) options.now.workers }
 {
-    let Ready { gates, patience } = match make_ready(rt, files, options, password, out, errors) {
+    let Ready { gates, patience } = match make_ready(
+        rt, files, options, None, password, out, errors,
+    ) {
         Ok(ready) => ready,
         Err(status) => return status,
     };

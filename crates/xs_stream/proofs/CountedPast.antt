@@ -1,6 +1,6 @@
--- How many entries have an id or one above it: of the blocks that a walk meets, all but some of the first one's.
-use Rattle.std.proofs.Common.{◌≡◌, suc, ◌+◌, ◌≤◌, Bool, true, false, not, cond, List, [], ◌∷◌, ◌++◌, length, filter, Some}
-use Rattle.std.proofs.Common.{sym, ap, ◌∙◌, refl, append_assoc, length-append}
+-- The entries that have an id or one above it are among the blocks that a walk from that id meets.
+use Rattle.std.proofs.Common.{◌≡◌, suc, ◌+◌, Bool, true, false, not, cond, List, [], ◌∷◌, ◌++◌, length, filter, Some}
+use Rattle.std.proofs.Common.{sym, ap, ◌∙◌, refl, append_assoc}
 use Rattle.std.proofs.lemmas.List.Elements.{filter-append}
 use Rattle.std.proofs.lemmas.List.Filters.{length-filter_both}
 use Rattle.std.specs.BTreeMap.Range.{entries_between}
@@ -10,11 +10,11 @@ use Rattle.xs_stream.specs.declared.id.Id.{Id}
 use Rattle.xs_stream.specs.declared.field.Field.{Field}
 use Rattle.xs_stream.specs.Id.{id_cmp, is_below}
 use Rattle.xs_stream.specs.IdText.{next_id}
-use Rattle.xs_stream.specs.StreamContent.{ids_of, AllAbove, AllUpTo, count_above}
+use Rattle.xs_stream.specs.StreamContent.{ids_of, AllUpTo, count_above}
 use Rattle.xs_stream.specs.ConsistentStream.{AllIds}
 use Rattle.xs_stream.specs.Blocks.{entries_of_blocks, AreFiled}
-use Rattle.xs_stream.proofs.Order.{up_to-below, le-not_below, not_below-above}
-use Rattle.xs_stream.proofs.InOrder.{and_yes, length-filter-le}
+use Rattle.xs_stream.proofs.Order.{up_to-below, le-not_below}
+use Rattle.xs_stream.proofs.InOrder.{and_yes}
 use Rattle.xs_stream.proofs.Past.{from-past}
 
 abbrev Entries : Type 0
@@ -31,17 +31,10 @@ from low es = filter (λ e. not (is_below e.0 low)) es
 pub from-split : (low : Id) (es : Entries) → length (filter (λ e. is_below e.0 low) es) + length (from low es) ≡ length es
 from-split low es = length-filter_both (λ e. is_below e.0 low) (λ e. not (is_below e.0 low)) (λ e. refl) es
 
-pub from-le : (low : Id) (es : Entries) → length (from low es) ≤ length es
-from-le low es = length-filter-le (λ e. not (is_below e.0 low)) es
-
 module _ (low : Id) where
   none-up_to : (under : Id) (es : Entries) → AllUpTo under (ids_of es) → is_below under low ≡ true → from low es ≡ []
   none-up_to under [] up h = refl
   none-up_to under (e ∷ es) up h = rw (up_to-below under e.0 low up.0 h) (none-up_to under es up.1 h)
-
-  all-above : (under : Id) (es : Entries) → AllAbove under (ids_of es) → is_below under low ≡ false → from low es ≡ es
-  all-above under [] above h = refl
-  all-above under (e ∷ es) above h = rw (not_below-above under low e.0 h above.0) (ap (λ others. e ∷ others) (all-above under es above.1 h))
 
   -- those of a block, and of what is behind it
   from-block : (b : Id × Entries) (bs : Blocks) (newest : Entries) → from low (entries_of_blocks (b ∷ bs) ++ newest) ≡ from low b.1 ++ from low (entries_of_blocks bs ++ newest)
@@ -64,13 +57,6 @@ module _ (low : Id) where
         → cond (not t) (c ∷ entries_between id_cmp (Included low) Unbounded bs) (entries_between id_cmp (Included low) Unbounded bs) ≡ b ∷ left → is_below b.0 low ≡ false
     by rest true is k = rest k
     by rest false is k = let same : c ≡ b = cc in ap (λ x. is_below x.0 low) (sym same) ∙ is
-
-  -- all that is behind that block counts
-  pub from-first : (b : Id × Entries) (left : Blocks) (newest : Entries) → AllAbove b.0 (ids_of (entries_of_blocks left ++ newest)) → is_below b.0 low ≡ false
-      → length (from low (entries_of_blocks (b ∷ left) ++ newest)) ≡ length (from low b.1) + (length (entries_of_blocks left) + length newest)
-  from-first b left newest above h =
-      ap length (from-block b left newest ∙ ap (λ es. from low b.1 ++ es) (all-above b.0 (entries_of_blocks left ++ newest) above h)) ∙ length-append (from low b.1) (entries_of_blocks left ++ newest)
-      ∙ ap (λ n. length (from low b.1) + n) (length-append (entries_of_blocks left) newest)
 
 -- what is above a cursor is what its successor has, or what is above that
 pub counted-past : (cursor low : Id) (es : Entries) → next_id cursor ≡ Some low → AllIds (ids_of es) → length (from low es) ≡ count_above cursor (ids_of es)

@@ -2,12 +2,13 @@
 use Rattle.std.specs.Prelude.{◌≡◌, ℕ, ◌+◌, ◌<◌, ◌≤◌, ◌^◌, not, List, [], ◌∷◌, ◌++◌, length, Option, Some, None}
 use Rattle.std.specs.List.{flat_map}
 use Rattle.std.specs.Map.{keys_of, lookup, lookup_key, set_value}
+use Rattle.std.specs.BTreeMap.Range.{entries_between}
 use Rattle.std.specs.declared.ops.Bound.{Bound}
 use Rattle.std.specs.declared.ops.Bound.TheVariants.{Included, Unbounded}
 use Rattle.xs_stream.specs.declared.id.Id.{Id}
 use Rattle.xs_stream.specs.declared.field.Field.{Field}
 use Rattle.xs_stream.specs.declared.entries.Entries.{Entries}
-use Rattle.xs_stream.specs.Id.{is_below, is_same_id}
+use Rattle.xs_stream.specs.Id.{id_cmp, is_below, is_same_id}
 use Rattle.xs_stream.specs.StreamContent.{ids_of, AllAbove, AllUpTo}
 use Rattle.xs_stream.specs.ConsistentStream.{AreValid, rank_of}
 use Rattle.xs_stream.specs.BlockState.{BlockState}
@@ -24,6 +25,10 @@ contents (b ∷ bs) = (b.0, b.1.entries) ∷ contents bs
 -- all entries, in their order
 abbrev pub all_of : Entries → List (Id × List Field)
 all_of entries = entries_of_blocks (contents entries.older.entries) ++ entries.newest.entries
+
+-- the entries that aren't in blocks filed below an id
+abbrev pub entries_from : Id → Entries → List (Id × List Field)
+entries_from low entries = entries_of_blocks (entries_between id_cmp (Included low) Unbounded (contents entries.older.entries)) ++ entries.newest.entries
 
 -- a block has entries, none of them above the id under which it is filed, and all later ones are above that id
 pub record IsFiled (block : Id × List (Id × List Field)) (later : List (Id × List Field)) : Type 0 where

@@ -7,6 +7,7 @@ pub mod Examples
 pub mod ExamplesKept
 pub mod BlockState
 pub mod Blocks
+pub mod CountState
 pub mod Walk
 pub mod PackedNumber
 pub mod PackedText

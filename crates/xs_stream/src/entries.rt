@@ -10,9 +10,10 @@ ghost use Rattle.xs_stream.specs.StreamContent.{is_within, ids_of, fields_at, wi
 ghost use Rattle.xs_stream.specs.StreamContent.{AllUpTo, count_above, greatest};
 ghost use Rattle.xs_stream.specs.ConsistentStream.{AllIds};
 ghost use Rattle.xs_stream.specs.Blocks.{contents, all_of, AreFiled, IsLaidDown, IsMeasured, block_ids};
-ghost use Rattle.xs_stream.specs.Blocks.{end_at, HasJoined, place_room, room_of};
+ghost use Rattle.xs_stream.specs.Blocks.{end_at, HasJoined, place_room, room_of, entries_from};
 
 use crate::block::Block;
+use crate::block_count::BlockCount;
 use crate::entry::Entry;
 use crate::field::Field;
 use crate::id::Id;
@@ -30,6 +31,12 @@ use xs_bytes::U63;
 
 /// No stream has more entries, since replies tell their number as `U63`.
 const MOST_IN_STREAM: usize = U63::MAX as usize;
+
+/// How many blocks are counted at a time on the side of a cursor that has fewer, if ids come evenly.
+const NEAR_BLOCKS: usize = 8;
+
+/// How many are counted meanwhile on the other side, which has fewer if they don't.
+const FAR_BLOCKS: usize = 1;
 
 /// How many bytes a filed block takes beside its own: its place in the tree.
 const PLACE_ROOM: u128 = 128;
@@ -452,15 +459,24 @@ impl Entries {
         true
     }
 
-    /// How many entries have ids below this one. Only the first of the blocks that may have others is looked through.
+    /// How many entries have ids below this one, of those that aren't in blocks filed below it: only the first of the other
+    /// blocks may have any.
+    fn count_beside(&self, low: Id) -> usize
+        requires { IsLaidDown self.now }
+        ensures { result ≡ length (filter (λ e. is_below e.0 low) (entries_from low self.now)) }
+    {
+        match self.older.range(low..).next() {
+            Some((_, block)) => block.count_below(low),
+            None => self.newest.count_below(low),
+        }
+    }
+
+    /// How many entries have ids below this one.
     fn count_below(&self, low: Id) -> usize
         requires { IsLaidDown self.now }
         ensures { result ≡ length (filter (λ e. is_below e.0 low) (all_of self.now)) }
     {
-        let mut count = match self.older.range(low..).next() {
-            Some((_, block)) => block.count_below(low),
-            None => self.newest.count_below(low),
-        };
+        let mut count = self.count_beside(low);
         let blocks = self.older.range((Bound::Unbounded, Bound::Excluded(low)));
         for (_under, block) in blocks {
             count += block.len();
@@ -571,22 +587,6 @@ impl Entries {
         self.ids_up(alloc, above, most)
     }
 
-    /// How many entries have this id or one above it. Only the first of the blocks that may have such is looked through.
-    fn count_from(&self, low: Id) -> usize
-        requires { IsLaidDown self.now }
-        ensures { result ≡ length (filter (λ e. not (is_below e.0 low)) (all_of self.now)) }
-    {
-        let mut blocks = self.older.range(low..);
-        let Some((_, first)) = blocks.next() else {
-            return self.newest.len() - self.newest.count_below(low);
-        };
-        let mut count = first.len() - first.count_below(low);
-        for (_under, block) in blocks {
-            count += block.len();
-        }
-        count + self.newest.len()
-    }
-
     /// Whether an id is nearer to those of the first blocks than to those of the last ones, so that fewer blocks are below it
     /// than above it, if ids come evenly.
     fn is_nearer_first(&self, id: Id) -> bool {
@@ -598,7 +598,8 @@ impl Entries {
         }
     }
 
-    /// How many entries have ids above a cursor.
+    /// How many entries have ids above a cursor. The blocks on both sides of it are counted by turns, until one side has no
+    /// more: more of them at a time on the side that has fewer, if ids come evenly.
     pub(crate) fn count_past(&self, cursor: Id) -> usize
         requires laid_down { IsLaidDown self.now }
         requires ids { AllIds (ids_of (all_of self.now)) }
@@ -607,10 +608,21 @@ impl Entries {
         let Some(low) = cursor.next() else {
             return 0;
         };
-        if self.is_nearer_first(low) {
-            return self.len - self.count_below(low);
+        let (up, down) = if self.is_nearer_first(low) {
+            (FAR_BLOCKS, NEAR_BLOCKS)
+        } else {
+            (NEAR_BLOCKS, FAR_BLOCKS)
+        };
+        let beside = self.count_beside(low);
+        let mut above = BlockCount::new(self.older.range(low..));
+        let mut below =
+            BlockCount::new(self.older.range((Bound::Unbounded, Bound::Excluded(low))));
+        while !above.count_next(up) {
+            if below.count_next(down) {
+                return self.len - (below.count() + beside);
+            }
         }
-        self.count_from(low)
+        above.count() + self.newest.len() - beside
     }
 
     /// The ids of a range that isn't empty, from its high end down, at most this many.

@@ -5,6 +5,7 @@
 
 pub mod add;
 mod block;
+mod block_count;
 mod entries;
 pub mod entry;
 pub mod examples;

@@ -3,10 +3,11 @@ use crate::figures::{Figures, Sums};
 use crate::limits::resident_bytes;
 use std::alloc::{Alloc, AllocError, Global};
 use std::fs::Files;
+use std::sync::Arc;
 use std::time::{Clock, Duration};
 use xs_bytes::Bytes;
 use xs_command::{Word, Words};
-use xs_files::SyncPolicy;
+use xs_files::{CompactPolicy, CompactionState, SyncPolicy};
 use xs_session::names_keyspace;
 
 /// A section of INFO.
@@ -35,8 +36,19 @@ const SECTIONS: [Section; 7] = [
 /// At most so many names of sections are looked at.
 const MOST_NAMES: usize = 16;
 
+/// What was settled of a log.
+#[derive(Drop)]
+pub struct LogSettings {
+    /// When it is synced.
+    pub sync: SyncPolicy,
+    /// When the server compacts its folder.
+    pub compact: CompactPolicy,
+    /// What became of that.
+    pub compactions: Arc<CompactionState>,
+}
+
 /// What was settled before the server began to serve.
-#[derive(Clone, Copy, Debug, PartialEq, Eq)]
+#[derive(Drop)]
 pub struct Settings {
     /// The version of the program.
     pub version: &'static str,
@@ -44,8 +56,8 @@ pub struct Settings {
     pub workers: u64,
     /// How many bytes the queues may hold; 0 if there is no bound.
     pub max_memory: u64,
-    /// When the log is synced, if there is one.
-    pub log: Option<SyncPolicy>,
+    /// The log, if there is one.
+    pub log: Option<LogSettings>,
     /// When it began, by the monotonic clock.
     pub started: Duration,
 }
@@ -89,13 +101,41 @@ fn is_asked(section: Section, named: &Words<'_>) -> bool {
     false
 }
 
-/// What the policy of a log is called.
-fn policy_name(log: Option<SyncPolicy>) -> &'static str {
-    match log {
-        Some(SyncPolicy::Always) => "always",
-        Some(SyncPolicy::EachSecond) => "second",
-        Some(SyncPolicy::Never) => "no",
-        None => "none",
+/// What the policy of syncs is called.
+fn sync_name(policy: SyncPolicy) -> &'static str {
+    match policy {
+        SyncPolicy::Always => "always",
+        SyncPolicy::EachSecond => "second",
+        SyncPolicy::Never => "no",
+    }
+}
+
+/// What the policy of compactions is called.
+fn compact_name(policy: CompactPolicy) -> &'static str {
+    match policy {
+        CompactPolicy::Serving => "serving",
+        CompactPolicy::Start => "start",
+        CompactPolicy::Never => "never",
+    }
+}
+
+impl LogSettings {
+    /// The section that tells of the log.
+    fn persistence(&self, alloc: Global) -> Result<String, AllocError> {
+        let sync = sync_name(self.sync);
+        let is_running = u8::from(self.compactions.is_running());
+        let status = if self.compactions.has_failed() {
+            "err"
+        } else {
+            "ok"
+        };
+        let compact = compact_name(self.compact);
+        let snapshot = self.compactions.snapshot();
+        format!(in alloc;
+            "# Persistence\r\nloading:0\r\naof_enabled:1\r\nlog_sync:{sync}\r\n\
+            aof_rewrite_in_progress:{is_running}\r\naof_last_bgrewrite_status:{status}\r\n\
+            log_compact:{compact}\r\nlog_snapshot:{snapshot}\r\n"
+        )
     }
 }
 
@@ -138,13 +178,16 @@ impl Information {
         )
     }
 
-    /// The section that tells of the log.
+    /// The section that tells of the log, if there is one.
     fn persistence(&self, alloc: Global) -> Result<String, AllocError> {
-        let enabled = u8::from(self.settings.log.is_some());
-        let policy = policy_name(self.settings.log);
-        format!(in alloc;
-            "# Persistence\r\nloading:0\r\naof_enabled:{enabled}\r\nlog_sync:{policy}\r\n"
-        )
+        match &self.settings.log {
+            Some(log) => log.persistence(alloc),
+            None => format!(in alloc;
+                "# Persistence\r\nloading:0\r\naof_enabled:0\r\nlog_sync:none\r\n\
+                aof_rewrite_in_progress:0\r\naof_last_bgrewrite_status:ok\r\n\
+                log_compact:none\r\nlog_snapshot:0\r\n"
+            ),
+        }
     }
 
     /// The section that tells what was served.

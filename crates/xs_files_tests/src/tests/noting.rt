@@ -9,7 +9,9 @@ use std::rt::Files;
 use std::sync::Arc;
 use std::test::Fail;
 use xs_bytes::Bytes;
-use xs_files::{FileTape, FolderFault, Progress, SyncPolicy, open_folder};
+use xs_files::{
+    FileTape, FolderFault, OpenedFolder, Progress, SyncPolicy, lock_folder, open_folder,
+};
 use xs_log::TapeLog;
 use xs_replay::EventLog;
 use xs_stream::Moment;
@@ -43,6 +45,21 @@ fn note_and_keep<R: Files<File = File> + Copy + Drop>(
     }
 }
 
+/// Locks a folder and opens it.
+pub fn lock_and_open<R: Files<File = File> + AllocGlobal + Copy + Drop>(
+    rt: &R,
+    folder: &str,
+    policy: SyncPolicy,
+) -> Result<OpenedFolder<R>, FolderFault>
+    ensures { IfOk result (λ opened. ⟦<TapeLog<FileTape<R>> as EventLog>⟧.broken opened.log ≡ false) }
+{
+    let Ok(progress) = Arc::new(rt.alloc(), Progress::new()) else {
+        return Err(FolderFault::Memory);
+    };
+    let lock = lock_folder(rt, folder)?;
+    open_folder(rt, folder, lock, policy, &progress)
+}
+
 /// Opens a folder and notes the event of a line in it. It gives how many events there were, and how many bytes were
 /// dropped.
 pub fn note<R: Files<File = File> + AllocGlobal + Copy + Drop>(
@@ -59,8 +76,7 @@ pub fn note<R: Files<File = File> + AllocGlobal + Copy + Drop>(
     if !can_be_record(words) {
         return Err("too long".into());
     }
-    let progress = Arc::new(alloc, Progress::new())?;
-    let Ok(opened) = open_folder(rt, folder, SyncPolicy::Always, &progress) else {
+    let Ok(opened) = lock_and_open(rt, folder, SyncPolicy::Always) else {
         return Err("not opened".into());
     };
     let mut log = opened.log;
@@ -73,10 +89,7 @@ pub fn fault_of<R: Files<File = File> + AllocGlobal + Copy + Drop>(
     rt: &R,
     folder: &str,
 ) -> Option<FolderFault> {
-    match Arc::new(rt.alloc(), Progress::new()) {
-        Ok(progress) => open_folder(rt, folder, SyncPolicy::Always, &progress).err(),
-        Err(_) => Some(FolderFault::Memory),
-    }
+    lock_and_open(rt, folder, SyncPolicy::Always).err()
 }
 
 /// Removes the folder of a test.

@@ -1,9 +1,8 @@
 //! A folder of logs that is opened again.
-use crate::tests::noting::{empty_folder, fault_of, note, remove_folder};
+use crate::tests::noting::{empty_folder, fault_of, lock_and_open, note, remove_folder};
 use std::fs;
-use std::sync::Arc;
 use std::test::Fail;
-use xs_files::{FolderFault, Progress, SyncPolicy, open_folder};
+use xs_files::{FolderFault, SyncPolicy};
 
 #[test]
 fn what_was_noted_is_found(rt: HostRuntime) -> Result<(), Fail> {
@@ -44,8 +43,7 @@ fn is_sent<T: Send>(_value: &T) {}
 #[test]
 fn a_folder_is_opened_once(rt: HostRuntime) -> Result<(), Fail> {
     empty_folder(&rt, "once")?;
-    let progress = Arc::new(rt.alloc(), Progress::new())?;
-    let Ok(opened) = open_folder(&rt, "once", SyncPolicy::Always, &progress) else {
+    let Ok(opened) = lock_and_open(&rt, "once", SyncPolicy::Always) else {
         return Err("not opened".into());
     };
     is_sent(&opened.log);
@@ -64,8 +62,7 @@ fn a_syncer_is_for_each_second_alone(rt: HostRuntime) -> Result<(), Fail> {
         SyncPolicy::EachSecond,
         SyncPolicy::Never,
     ] {
-        let progress = Arc::new(rt.alloc(), Progress::new())?;
-        let Ok(opened) = open_folder(&rt, "syncer", policy, &progress) else {
+        let Ok(opened) = lock_and_open(&rt, "syncer", policy) else {
             return Err("not opened".into());
         };
         let syncer = opened.log.tape().syncer()?;

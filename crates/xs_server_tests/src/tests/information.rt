@@ -1,13 +1,14 @@
 //! What INFO tells.
 use super::*;
 use std::alloc::{AllocError, Global};
+use std::sync::Arc;
 use std::time::{Clock, Duration};
 use xs_bytes::Bytes;
 use xs_command::Words;
-use xs_files::SyncPolicy;
+use xs_files::{CompactPolicy, CompactionState, SyncPolicy};
 use xs_session::Tally;
 use xs_tcp::figures::{Figures, KeeperState, SharedFigures, WorkerFigures};
-use xs_tcp::information::{Information, Settings};
+use xs_tcp::information::{Information, LogSettings, Settings};
 use xs_tcp::limits::resident_in;
 
 /// What a worker counts that serves a connection, and has had so many before; of its replies one was an error.
@@ -20,6 +21,17 @@ fn worker(alloc: Global, replies: u64, gone: u64) -> Result<SharedFigures, Alloc
     figures.open();
     figures.note(Tally { replies, errors: 1 });
     Ok(figures)
+}
+
+/// A log whose snapshot 7 was read at the start.
+fn log(alloc: Global) -> Result<LogSettings, AllocError> {
+    let compactions = CompactionState::new();
+    compactions.reads(7);
+    Ok(LogSettings {
+        sync: SyncPolicy::Always,
+        compact: CompactPolicy::Start,
+        compactions: Arc::new(alloc, compactions)?,
+    })
 }
 
 /// A server whose two workers have had three connections, of which one has ended.
@@ -38,7 +50,7 @@ fn server(rt: &HostRuntime) -> Result<Information, Fail> {
         port: 6380,
         workers: 2,
         max_memory: 1_048_576,
-        log: Some(SyncPolicy::Always),
+        log: Some(log(alloc)?),
         started: rt.monotonic().unwrap_or(Duration::ZERO),
     };
     Ok(Information { settings, figures })
@@ -59,6 +71,10 @@ const CLIENTS: &str = "# Clients\r\nconnected_clients:2\r\nmaxclients:2\r\nblock
 const STATS: &str =
     "# Stats\r\ntotal_connections_received:3\r\ntotal_commands_processed:11\r\ntotal_error_replies:2\r\n";
 
+const PERSISTENCE: &str =
+    "# Persistence\r\nloading:0\r\naof_enabled:1\r\nlog_sync:always\r\naof_rewrite_in_progress:0\r\n\
+    aof_last_bgrewrite_status:ok\r\nlog_compact:start\r\nlog_snapshot:7\r\n";
+
 // The names of sections and fields, and the empty line between two, as Redis 7.0 has them.
 #[test]
 fn tells_of_sections(rt: HostRuntime) -> Result<(), Fail> {
@@ -75,7 +91,7 @@ fn tells_of_sections(rt: HostRuntime) -> Result<(), Fail> {
     assert_eq!(rt; told(&rt, &["cluster"])?.len(), 0);
     assert_eq!(rt;
         told(&rt, &["persistence"])?.as_slice(),
-        "# Persistence\r\nloading:0\r\naof_enabled:1\r\nlog_sync:always\r\n".as_bytes()
+        PERSISTENCE.as_bytes()
     );
     assert_eq!(rt;
         told(&rt, &["keyspace"])?.as_slice(),

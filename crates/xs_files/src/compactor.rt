@@ -1,0 +1,131 @@
+//! A folder is compacted again and again, each time that it is due.
+ghost use Rattle.std.specs.Prelude.{◌≡◌, ◌≢◌, ◌↔◌, IsTrue};
+
+use crate::compaction::{Compaction, compact_if_due};
+use crate::compaction_state::CompactionState;
+use crate::due::sizes_of;
+use crate::fault::FolderFault;
+use crate::listing::{Listing, list};
+use crate::progress::Progress;
+use std::alloc::{AllocError, Global};
+use std::fs::File;
+use std::rt::Files;
+use std::sync::Arc;
+
+/// When a server compacts the folder of its log.
+#[derive(Clone, Copy, Debug, PartialEq, Eq)]
+pub enum CompactPolicy {
+    /// While it serves, each time that it is due.
+    Serving,
+    /// At its start, if it is due then.
+    Start,
+    /// Never: another process does it, or nobody.
+    Never,
+}
+
+/// The number of the last log when a folder was last looked at; 0 if it wasn't.
+#[derive(Clone, Copy, Debug, PartialEq, Eq)]
+struct LastLook {
+    number: u64,
+}
+
+impl LastLook {
+    /// Looks at a folder whose last log has this number, and says whether a log was closed since the last look. If not,
+    /// nothing is due that wasn't then, and what was refused then isn't tried again.
+    fn is_news(&mut self, number: u64) -> bool
+        ensures news { IsTrue result ↔ (number ≢ self.old.number) }
+        ensures kept { self.new.number ≡ number }
+    {
+        let is_news = number != self.number;
+        self.number = number;
+        is_news
+    }
+}
+
+/// Compacts a folder each time that it is due and it is asked.
+#[derive(Drop)]
+pub struct Compactor {
+    alloc: Global,
+    folder: String,
+    progress: Arc<Progress>,
+    state: Arc<CompactionState>,
+    last_look: LastLook,
+}
+
+impl Compactor {
+    /// Of this folder. The progress tells how many bytes were read.
+    pub fn new(
+        alloc: Global,
+        folder: &str,
+        progress: &Arc<Progress>,
+    ) -> Result<Compactor, AllocError> {
+        Ok(Compactor {
+            alloc,
+            folder: String::from_str(alloc, folder)?,
+            progress: Arc::try_clone(progress)?,
+            state: Arc::new(alloc, CompactionState::new())?,
+            last_look: LastLook { number: 0 },
+        })
+    }
+
+    /// The folder.
+    pub fn folder(&self) -> &str {
+        self.folder.as_str()
+    }
+
+    /// What is told of its compactions.
+    pub fn state(&self) -> Result<Arc<CompactionState>, AllocError> {
+        Arc::try_clone(&self.state)
+    }
+
+    /// Whether a compaction of the folder, which has this, is due.
+    fn is_due_with<R: Files<File = File> + AllocGlobal + Copy + Drop>(
+        &self,
+        rt: &R,
+        listing: &Listing,
+    ) -> Result<bool, FolderFault> {
+        let sizes = sizes_of(rt, self.alloc, self.folder.as_str(), listing)?;
+        Ok(sizes.is_due())
+    }
+
+    /// Whether a compaction is due, and a log was closed since the last call: then `compact` is to be called, once.
+    ///
+    /// # Errors
+    /// A `FolderFault`, once: the next call that looks is that behind the next log, or once the folder can be listed.
+    pub fn is_due<R: Files<File = File> + AllocGlobal + Copy + Drop>(
+        &mut self,
+        rt: &R,
+    ) -> Result<bool, FolderFault> {
+        let listing = match list(rt, self.folder.as_str()) {
+            Ok(listing) => listing,
+            Err(_) if self.state.lists(false) => return Ok(false),
+            Err(fault) => return Err(fault),
+        };
+        self.state.lists(true);
+        if !self.last_look.is_news(listing.last) {
+            return Ok(false);
+        }
+        let is_due = self.is_due_with(rt, &listing);
+        match is_due {
+            Ok(true) => {}
+            Ok(false) => self.state.ends(&Ok(None)),
+            Err(fault) => self.state.ends(&Err(fault)),
+        }
+        is_due
+    }
+
+    /// Compacts the folder, unless somebody else just did: then it gives None. The last log isn't touched, so a server may
+    /// use the folder.
+    ///
+    /// # Errors
+    /// A `FolderFault`, and nothing was removed.
+    pub fn compact<R: Files<File = File> + AllocGlobal + Copy + Drop>(
+        &self,
+        rt: &R,
+    ) -> Result<Option<Compaction>, FolderFault> {
+        self.state.begins();
+        let done = compact_if_due(rt, self.folder.as_str(), &self.progress);
+        self.state.ends(&done);
+        done
+    }
+}

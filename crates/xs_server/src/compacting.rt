@@ -1,0 +1,86 @@
+//! A folder of logs is compacted when that is due, and what became of it is said.
+use crate::report::report_memory;
+use std::alloc::{AllocError, Global};
+use std::sync::Wait;
+use std::thread;
+use std::thread::Threads;
+use std::time::{Clock, Duration};
+use xs_devices::{Sink, write_all};
+use xs_files::{Compaction, Compactor, FolderFault};
+
+/// How often a folder is looked at.
+const SECONDS: u64 = 1;
+
+/// The line that says what a compaction has done.
+pub fn compaction_line(
+    alloc: Global,
+    folder: &str,
+    compaction: Compaction,
+) -> Result<String, AllocError> {
+    let Compaction { number, logs } = compaction;
+    format!(in alloc; "xs_server: log {folder}: snapshot-{number} in the place of {logs} logs\n")
+}
+
+/// The line that says why a folder that is used isn't compacted.
+fn refusal_line(alloc: Global, folder: &str, fault: FolderFault) -> Result<String, AllocError> {
+    format!(in alloc; "xs_server: log {folder}: not compacted: {fault}\n")
+}
+
+/// Compacts a folder in a thread of its own: when that ends, the C library gives the memory back to the system that it
+/// has taken.
+fn compact_aside<R: Threads>(
+    rt: &R,
+    files: &HostRuntime,
+    compactor: &Compactor,
+) -> Result<Option<Compaction>, FolderFault> {
+    let (done, ()) = thread::join(rt, || compactor.compact(files), || ());
+    done
+}
+
+/// Compacts a folder if that is due. It gives None if there was nothing to do.
+fn compact_once_due<R: Threads>(
+    rt: &R,
+    files: &HostRuntime,
+    compactor: &mut Compactor,
+) -> Result<Option<Compaction>, FolderFault> {
+    if compactor.is_due(files)? {
+        return compact_aside(rt, files, compactor);
+    }
+    Ok(None)
+}
+
+/// Compacts a folder if that is due, and says what became of it. A fault of the writer is passed over.
+pub fn compact_and_say<W: Sink, R: Threads>(
+    rt: &R,
+    files: &HostRuntime,
+    compactor: &mut Compactor,
+    out: &mut W,
+) {
+    let alloc = files.alloc();
+    let line = match compact_once_due(rt, files, compactor) {
+        Ok(None) => return,
+        Ok(Some(compaction)) => compaction_line(alloc, compactor.folder(), compaction),
+        Err(fault) => refusal_line(alloc, compactor.folder(), fault),
+    };
+    match line {
+        Ok(line) => {
+            let _ = write_all(out, line.as_bytes());
+        }
+        Err(_) => {
+            report_memory(out);
+        }
+    }
+}
+
+/// Looks each second whether a compaction of a folder is due, and does it.
+pub fn compact_each_second<W: Sink, R: Threads + Wait + Clock>(
+    rt: &R,
+    files: &HostRuntime,
+    compactor: &mut Compactor,
+    out: &mut W,
+) {
+    for _ in rt.forever() {
+        thread::sleep(rt, Duration::from_secs(SECONDS));
+        compact_and_say(rt, files, compactor, out);
+    }
+}
