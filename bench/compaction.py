@@ -6,13 +6,13 @@ file, in one run.
 
 It needs redis-server and cc.
 
-size: so many jobs of 100 bytes are added, read, acknowledged and deleted, with 1,000 waiting at any time, while
-`PROGRAM compact` is called whenever the closed logs have more bytes than the snapshot, and than 64 MiB; Redis rewrites
-by itself, as it does if nothing is set. The greatest sizes of both folders are told.
+size: so many jobs of 100 bytes are added, read, acknowledged and deleted, with 1,000 waiting at any time. Both servers
+compact by themselves, as they do if nothing is set. The greatest sizes of their folders are told.
 pauses: so many entries of 115 bytes, which can't be compressed, stand in closed logs. So many requests a second over 50
 connections, half of them XADD, half XREADGROUP, each sent at its moment by bench/paced_driver.c, are answered for some
-seconds, and then while the folder is compacted, with nice 19; Redis is asked for BGREWRITEAOF. Each figure is the
-median of the runs. With them stands the memory of the processes: resident here, private of the child of Redis.
+seconds, and then while the folder is compacted by a process of its own, as its unit has it; Redis is asked for
+BGREWRITEAOF. Each figure is the median of the runs. With them stands the memory of the processes: resident here,
+private of the child of Redis.
 restart: how long a start takes on logs, and on a snapshot and the last log; of Redis on its plain file, and on its base
 file. Ours is from the start of the program to its line that tells how many records it read; Redis tells its own.
 """
@@ -32,7 +32,7 @@ import tempfile
 import threading
 import time
 
-from log import program_words, redis_words, start, tell_sync
+from log import logged_words, program_words, redis_words, start, tell_sync
 from tcp import HERE, free_port, spread
 
 WAITING, BATCH = 1000, 100
@@ -43,7 +43,6 @@ CONNECTIONS = 50
 PATIENCE = 60
 # How long requests come before a compaction, in seconds, and how much of that isn't counted.
 BEFORE, WARM = 6, 1
-FULL = 64 << 20
 # With entries of this size 1,000,000 of them fill three logs.
 SIZE = 115
 
@@ -104,17 +103,20 @@ def sizes(folder):
 
 
 class Watch:
-    """Notes the greatest size of a folder, and what else is to be done meanwhile."""
+    """Notes the greatest size of a folder, and the number and the size of its greatest snapshots."""
 
-    def __init__(self, folder, also=lambda found: None):
-        self.folder, self.also, self.greatest, self.over = folder, also, 0, False
+    def __init__(self, folder):
+        self.folder, self.over = folder, False
+        self.greatest, self.last, self.snapshot = 0, 0, 0
         self.thread = threading.Thread(target=self.run)
 
     def run(self):
         while not self.over:
             found = sizes(self.folder)
             self.greatest = max(self.greatest, sum(found.values()))
-            self.also(found)
+            snapshots = {int(name[9:]): size for name, size in found.items() if re.fullmatch(r"snapshot-\d+", name)}
+            self.last = max([self.last, *snapshots])
+            self.snapshot = max([self.snapshot, *snapshots.values()])
             time.sleep(0.01)
 
     def __enter__(self):
@@ -126,47 +128,21 @@ class Watch:
         self.thread.join()
 
 
-class Compactor:
-    """Compacts a folder when it is time for that."""
-
-    def __init__(self, program, folder):
-        self.words = ["nice", "-n", "19", program, "compact", folder]
-        self.child, self.count, self.snapshot = None, 0, 0
-
-    def look(self, found):
-        if self.child and self.child.poll() is None:
-            return
-        snapshots = {int(name[9:]): size for name, size in found.items() if re.fullmatch(r"snapshot-\d+", name)}
-        logs = {int(name[4:]): size for name, size in found.items() if re.fullmatch(r"log-\d+", name)}
-        first = max(snapshots, default=0)
-        self.snapshot = max(self.snapshot, snapshots.get(first, 0))
-        closed = sum(size for number, size in logs.items() if first <= number < max(logs))
-        if closed > max(snapshots.get(first, 0), FULL):
-            self.child = subprocess.Popen(self.words, stderr=subprocess.DEVNULL)
-            self.count += 1
-
-    def end(self):
-        if self.child and self.child.wait() != 0:
-            raise SystemExit("a compaction failed")
-
-
 def tell_size(asked, _):
-    told = []
     with folder_in(asked) as here, folder_in(asked) as there:
-        folder = os.path.join(here, "log")
-        compactor = Compactor(asked.program, folder)
         redis = redis_words(there, "everysec") + ["--auto-aof-rewrite-percentage", "100"]
-        for words, watched, also in ((program_words(asked.program, 4, "--log", folder, "--sync", "second"), here,
-                                      compactor.look), (redis, there, lambda found: None)):
+        log = "--log", os.path.join(here, "log"), "--sync", "second"
+        watches = []
+        for words, folder in ((program_words(asked.program, 4, *log), here), (redis, there)):
             server = start(words, None)
-            with Watch(watched, also) as watch:
+            with Watch(folder) as watch:
                 pass_jobs(server.port, asked.jobs)
             server.end()
-            told.append(watch.greatest)
-        compactor.end()
-    print(f"\n{asked.jobs:,} jobs, {WAITING:,} waiting: the folder has {told[0] / 1e6:.0f} MB at most, with "
-          f"{compactor.count} compactions, the greatest snapshot {compactor.snapshot / 1e6:.2f}; that of Redis "
-          f"{told[1] / 1e6:.0f}", flush=True)
+            watches.append(watch)
+    ours, theirs = watches
+    print(f"\n{asked.jobs:,} jobs, {WAITING:,} waiting: the folder has {ours.greatest / 1e6:.0f} MB at most, the last "
+          f"snapshot is snapshot-{ours.last}, and the greatest has {ours.snapshot / 1e6:.2f} MB; that of Redis has "
+          f"{theirs.greatest / 1e6:.0f} MB at most", flush=True)
 
 
 # ---- a state of many entries
@@ -208,8 +184,7 @@ def fill(words, asked):
 def filled(asked):
     """Folders of both that have the entries in their plain logs."""
     with folder_in(asked) as here, folder_in(asked) as there:
-        for words in (program_words(asked.program, 16, "--log", os.path.join(here, "log"), "--sync", "no"),
-                      redis_words(there, "no")):
+        for words in (logged_words(asked.program, 16, here, "no"), redis_words(there, "no")):
             fill(words, asked)
         logs = sizes(here)
         print(f"\n{asked.entries:,} entries: logs of {', '.join(f'{logs[name]:,}' for name in sorted(logs))} bytes; "
@@ -242,8 +217,8 @@ def private(process):
 
 def compact(asked, folder, server):
     """Compacts a folder beside its server. It gives the greatest memory of both."""
-    child = subprocess.Popen(["nice", "-n", "19", asked.program, "compact", os.path.join(folder, "log")],
-                             stderr=subprocess.DEVNULL)
+    child = subprocess.Popen(["ionice", "-c", "3", asked.program, "compact", os.path.join(folder, "log")],
+                             stderr=subprocess.DEVNULL, preexec_fn=lambda: os.setpriority(os.PRIO_PROCESS, 0, 19))
     used = [0, 0]
     while child.poll() is None:
         used = [max(used[0], memory(child.pid)), max(used[1], memory(server.child.pid))]
@@ -342,8 +317,8 @@ def tell_pauses(asked, paced):
             here, there = [], []
             for _ in range(asked.runs):
                 with copied(asked, folders[0]) as folder:
-                    log = "--log", os.path.join(folder, "log"), "--sync", ours
-                    here.append(one_run(asked, program_words(asked.program, CONNECTIONS, *log), folder, compact, paced))
+                    words = logged_words(asked.program, CONNECTIONS, folder, ours)
+                    here.append(one_run(asked, words, folder, compact, paced))
                 with copied(asked, folders[1]) as folder:
                     there.append(one_run(asked, redis_words(folder, theirs), folder, rewrite, paced))
             print(f"\n`--sync {ours}`, `appendfsync {theirs}`, {asked.rate:,} requests a second: latencies in µs in "
@@ -360,7 +335,7 @@ def start_here(asked, folder):
     """How many seconds a start takes, and how many entries it has."""
     port = free_port()
     words = [str(port) if word == "PORT" else word
-             for word in program_words(asked.program, 16, "--log", os.path.join(folder, "log"), "--sync", "no")]
+             for word in logged_words(asked.program, 16, folder, "no")]
     began = time.perf_counter()
     child = subprocess.Popen(words, stderr=subprocess.PIPE, text=True)
     try:
