@@ -41,8 +41,9 @@ FILLED = 500
 CONNECTIONS = 50
 # How many seconds a reply may take.
 PATIENCE = 60
-# How long requests come before a compaction, in seconds, and how much of that isn't counted.
-BEFORE, WARM = 6, 1
+# How long requests come before a compaction, in seconds, and how much of that isn't counted; how long they are counted
+# behind it, since Redis removes its old file then.
+BEFORE, WARM, BEHIND = 6, 1, 0.5
 # With entries of this size 1,000,000 of them fill three logs.
 SIZE = 115
 
@@ -268,13 +269,14 @@ def one_run(asked, words, folder, work, paced):
         before, first = memory(server.child.pid), time.monotonic()
         used = work(asked, folder, server)
         last = time.monotonic()
+        time.sleep(BEHIND)
         driver.send_signal(signal.SIGTERM)
         reader.join()
         if driver.wait() != 0:
             raise SystemExit("the driver failed")
     finally:
         server.end()
-    spans = ((began + WARM, first), (first, last))
+    spans = ((began + WARM, first), (first, last + BEHIND))
     return [[latencies(lines, kind, *span) for kind in "ar"] for span in spans], last - first, [before, *used]
 
 
