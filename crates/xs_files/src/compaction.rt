@@ -144,6 +144,16 @@ fn compact_listed<R: Files<File = File> + Copy + Drop>(
     }))
 }
 
+/// Locks a folder for a compaction, and lists what it has then.
+fn lock_and_list<R: Files<File = File> + AllocGlobal + Copy + Drop>(
+    rt: &R,
+    folder: &str,
+) -> Result<(File, Listing), FolderFault> {
+    let lock = take_compaction_lock(rt, rt.alloc(), folder)?;
+    let listing = list_whole(rt, folder)?;
+    Ok((lock, listing))
+}
+
 /// Compacts a folder of logs, which a server may be using: a snapshot of what its closed logs have left is written, from
 /// the greatest snapshot and the closed logs behind it, and once it is kept they are removed. The last log is neither
 /// read nor changed. It gives None if no log is closed. The progress tells how many bytes were read.
@@ -155,10 +165,8 @@ pub fn compact_folder<R: Files<File = File> + AllocGlobal + Copy + Drop>(
     folder: &str,
     progress: &Arc<Progress>,
 ) -> Result<Option<Compaction>, FolderFault> {
-    let alloc = rt.alloc();
-    let _lock = take_compaction_lock(rt, alloc, folder)?;
-    let listing = list_whole(rt, folder)?;
-    compact_listed(rt, alloc, folder, listing, progress)
+    let (_lock, listing) = lock_and_list(rt, folder)?;
+    compact_listed(rt, rt.alloc(), folder, listing, progress)
 }
 
 /// The same, but only if it is due. It gives None if it isn't.
@@ -170,11 +178,9 @@ pub fn compact_if_due<R: Files<File = File> + AllocGlobal + Copy + Drop>(
     folder: &str,
     progress: &Arc<Progress>,
 ) -> Result<Option<Compaction>, FolderFault> {
-    let alloc = rt.alloc();
-    let _lock = take_compaction_lock(rt, alloc, folder)?;
-    let listing = list_whole(rt, folder)?;
-    if !sizes_of(rt, alloc, folder, &listing)?.is_due() {
+    let (_lock, listing) = lock_and_list(rt, folder)?;
+    if !sizes_of(rt, rt.alloc(), folder, &listing)?.is_due() {
         return Ok(None);
     }
-    compact_listed(rt, alloc, folder, listing, progress)
+    compact_listed(rt, rt.alloc(), folder, listing, progress)
 }
