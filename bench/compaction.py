@@ -4,17 +4,17 @@ file, in one run.
 
     compaction.py [--only size,pauses,restart] [--jobs N] [--entries N] [--rate N] [--runs N] [--folder FOLDER] PROGRAM
 
-It needs redis-server, redis-cli and cc.
+It needs redis-server and cc.
 
-size: so many jobs of 100 bytes are added, read, acknowledged and deleted, with 1,000 waiting at any time, while
-`PROGRAM compact` is called whenever the closed logs have more bytes than the snapshot and than 64 MiB; Redis rewrites by
-itself, as it does if nothing is set. The greatest sizes of both folders are told.
-pauses: so many entries of 115 bytes, which can't be compressed, stand in closed logs. So many requests a second, half of them XADD, half XREADGROUP,
-each sent at its moment by bench/paced_driver.c, are answered for some seconds, and then while the folder is compacted,
-with nice 19; Redis is asked for BGREWRITEAOF. The latencies of all runs are taken together. With them stands the memory
-of the processes: resident here, private of the child of Redis.
+size: so many jobs of 100 bytes are added, read, acknowledged and deleted, with 1,000 waiting at any time. Both servers
+compact by themselves, as they do if nothing is set. The greatest sizes of their folders are told.
+pauses: so many entries of 115 bytes, which can't be compressed, stand in closed logs. So many requests a second over 50
+connections, half of them XADD, half XREADGROUP, each sent at its moment by bench/paced_driver.c, are answered for some
+seconds, and then while the folder is compacted by a process of its own, as its unit has it; Redis is asked for
+BGREWRITEAOF. Each figure is the median of the runs. With them stands the memory of the processes: resident here,
+private of the child of Redis.
 restart: how long a start takes on logs, and on a snapshot and the last log; of Redis on its plain file, and on its base
-file. Ours is from the start of the program to its line that tells how many records it read, that of Redis as it tells it.
+file. Ours is from the start of the program to its line that tells how many records it read; Redis tells its own.
 """
 import argparse
 import base64
@@ -32,18 +32,18 @@ import tempfile
 import threading
 import time
 
-from log import program_words, redis_words, start, tell_sync
+from log import logged_words, program_words, redis_words, start, tell_sync
 from tcp import HERE, free_port, spread
 
 WAITING, BATCH = 1000, 100
 # How many entries are added at once.
 FILLED = 500
-CONNECTIONS = 16
+CONNECTIONS = 50
 # How many seconds a reply may take.
 PATIENCE = 60
-# How long requests come before a compaction, in seconds, and how much of that isn't counted.
-BEFORE, WARM = 6, 1
-FULL = 64 << 20
+# How long requests come before a compaction, in seconds, and how much of that isn't counted; how long they are counted
+# behind it, since Redis removes its old file then.
+BEFORE, WARM, BEHIND = 6, 1, 0.5
 # With entries of this size 1,000,000 of them fill three logs.
 SIZE = 115
 
@@ -104,17 +104,20 @@ def sizes(folder):
 
 
 class Watch:
-    """Notes the greatest size of a folder, and what else is to be done meanwhile."""
+    """Notes the greatest size of a folder, and the number and the size of its greatest snapshots."""
 
-    def __init__(self, folder, also=lambda found: None):
-        self.folder, self.also, self.greatest, self.over = folder, also, 0, False
+    def __init__(self, folder):
+        self.folder, self.over = folder, False
+        self.greatest, self.last, self.snapshot = 0, 0, 0
         self.thread = threading.Thread(target=self.run)
 
     def run(self):
         while not self.over:
             found = sizes(self.folder)
             self.greatest = max(self.greatest, sum(found.values()))
-            self.also(found)
+            snapshots = {int(name[9:]): size for name, size in found.items() if re.fullmatch(r"snapshot-\d+", name)}
+            self.last = max([self.last, *snapshots])
+            self.snapshot = max([self.snapshot, *snapshots.values()])
             time.sleep(0.01)
 
     def __enter__(self):
@@ -126,47 +129,21 @@ class Watch:
         self.thread.join()
 
 
-class Compactor:
-    """Compacts a folder when it is time for that."""
-
-    def __init__(self, program, folder):
-        self.words = ["nice", "-n", "19", program, "compact", folder]
-        self.child, self.count, self.snapshot = None, 0, 0
-
-    def look(self, found):
-        if self.child and self.child.poll() is None:
-            return
-        snapshots = {int(name[9:]): size for name, size in found.items() if re.fullmatch(r"snapshot-\d+", name)}
-        logs = {int(name[4:]): size for name, size in found.items() if re.fullmatch(r"log-\d+", name)}
-        first = max(snapshots, default=0)
-        self.snapshot = max(self.snapshot, snapshots.get(first, 0))
-        closed = sum(size for number, size in logs.items() if first <= number < max(logs))
-        if closed > max(snapshots.get(first, 0), FULL):
-            self.child = subprocess.Popen(self.words, stderr=subprocess.DEVNULL)
-            self.count += 1
-
-    def end(self):
-        if self.child and self.child.wait() != 0:
-            raise SystemExit("a compaction failed")
-
-
 def tell_size(asked, _):
-    told = []
     with folder_in(asked) as here, folder_in(asked) as there:
-        folder = os.path.join(here, "log")
-        compactor = Compactor(asked.program, folder)
         redis = redis_words(there, "everysec") + ["--auto-aof-rewrite-percentage", "100"]
-        for words, watched, also in ((program_words(asked.program, 4, "--log", folder, "--sync", "second"), here,
-                                      compactor.look), (redis, there, lambda found: None)):
+        log = "--log", os.path.join(here, "log"), "--sync", "second"
+        watches = []
+        for words, folder in ((program_words(asked.program, 4, *log), here), (redis, there)):
             server = start(words, None)
-            with Watch(watched, also) as watch:
+            with Watch(folder) as watch:
                 pass_jobs(server.port, asked.jobs)
             server.end()
-            told.append(watch.greatest)
-        compactor.end()
-    print(f"\n{asked.jobs:,} jobs, {WAITING:,} waiting: the folder has {told[0] / 1e6:.0f} MB at most, with "
-          f"{compactor.count} compactions, the greatest snapshot {compactor.snapshot / 1e6:.2f}; that of Redis "
-          f"{told[1] / 1e6:.0f}", flush=True)
+            watches.append(watch)
+    ours, theirs = watches
+    print(f"\n{asked.jobs:,} jobs, {WAITING:,} waiting: the folder has {ours.greatest / 1e6:.0f} MB at most, the last "
+          f"snapshot is snapshot-{ours.last}, and the greatest has {ours.snapshot / 1e6:.2f} MB; that of Redis has "
+          f"{theirs.greatest / 1e6:.0f} MB at most", flush=True)
 
 
 # ---- a state of many entries
@@ -208,8 +185,7 @@ def fill(words, asked):
 def filled(asked):
     """Folders of both that have the entries in their plain logs."""
     with folder_in(asked) as here, folder_in(asked) as there:
-        for words in (program_words(asked.program, 16, "--log", os.path.join(here, "log"), "--sync", "no"),
-                      redis_words(there, "no")):
+        for words in (logged_words(asked.program, 16, here, "no"), redis_words(there, "no")):
             fill(words, asked)
         logs = sizes(here)
         print(f"\n{asked.entries:,} entries: logs of {', '.join(f'{logs[name]:,}' for name in sorted(logs))} bytes; "
@@ -242,8 +218,8 @@ def private(process):
 
 def compact(asked, folder, server):
     """Compacts a folder beside its server. It gives the greatest memory of both."""
-    child = subprocess.Popen(["nice", "-n", "19", asked.program, "compact", os.path.join(folder, "log")],
-                             stderr=subprocess.DEVNULL)
+    child = subprocess.Popen(["ionice", "-c", "3", asked.program, "compact", os.path.join(folder, "log")],
+                             stderr=subprocess.DEVNULL, preexec_fn=lambda: os.setpriority(os.PRIO_PROCESS, 0, 19))
     used = [0, 0]
     while child.poll() is None:
         used = [max(used[0], memory(child.pid)), max(used[1], memory(server.child.pid))]
@@ -279,11 +255,12 @@ def latencies(lines, kind, begin, end):
 
 
 def one_run(asked, words, folder, work, paced):
-    """The latencies of both kinds before a work and during it, how long it took, and the memory of the server before."""
+    """The latencies of both kinds before a work and during it, how long it took, and the memory of the server before it
+    and meanwhile."""
     server = start_loaded(words)
     try:
-        driver = subprocess.Popen([paced, str(server.port), str(CONNECTIONS), str(asked.rate), "600", "s", "g", "v" * SIZE],
-                                  stdout=subprocess.PIPE, text=True)
+        asking = [paced, str(server.port), str(CONNECTIONS), str(asked.rate), "600", "s", "g", "v" * SIZE]
+        driver = subprocess.Popen(asking, stdout=subprocess.PIPE, text=True)
         lines = []
         reader = threading.Thread(target=lambda: lines.extend(driver.stdout))
         reader.start()
@@ -292,37 +269,48 @@ def one_run(asked, words, folder, work, paced):
         before, first = memory(server.child.pid), time.monotonic()
         used = work(asked, folder, server)
         last = time.monotonic()
+        time.sleep(BEHIND)
         driver.send_signal(signal.SIGTERM)
         reader.join()
         if driver.wait() != 0:
             raise SystemExit("the driver failed")
     finally:
         server.end()
-    spans = ((began + WARM, first), (first, last))
+    spans = ((began + WARM, first), (first, last + BEHIND))
     return [[latencies(lines, kind, *span) for kind in "ar"] for span in spans], last - first, [before, *used]
 
 
-def at(values, part):
-    return sorted(values)[int(len(values) * part)]
-
-
-def pooled(runs, span, kind):
-    return [late for run in runs for late in run[0][span][kind]]
+def at_parts(values):
+    """In the middle, at 99 % and at 99.9 %."""
+    ordered = sorted(values)
+    return [ordered[int(len(ordered) * part)] for part in (0.5, 0.99, 0.999)]
 
 
 def pause_lines(here, there):
-    """A line for each kind, before and meanwhile: at 99 % and 99.9 % here, of Redis, and the ratios."""
+    """A line for each kind, before and meanwhile: latencies here and of Redis, and the ratios, each the median of the
+    runs."""
+    def cells(rows, form):
+        return " / ".join(f"{statistics.median(row):{form}}" for row in zip(*rows))
+
     for span, when in enumerate(("before", "meanwhile")):
         for kind, name in enumerate(("XADD", "XREADGROUP")):
-            ours, theirs = ([at(pooled(runs, span, kind), part) for part in (0.5, 0.99, 0.999)] for runs in (here, there))
-            by = " / ".join(f"{one / max(other, 1):.2f}" for one, other in zip(ours, theirs))
-            yield (f"| {name}, {when} | {' / '.join(f'{one:,}' for one in ours)} "
-                   f"| {' / '.join(f'{one:,}' for one in theirs)} | {by} | {len(pooled(here, span, kind)):,}, "
-                   f"{len(pooled(there, span, kind)):,} |")
+            ours, theirs = ([at_parts(run[0][span][kind]) for run in runs] for runs in (here, there))
+            by = [[one / max(other, 1) for one, other in zip(*pair)] for pair in zip(ours, theirs)]
+            counts = [statistics.median(len(run[0][span][kind]) for run in runs) for runs in (here, there)]
+            yield (f"| {name}, {when} | {cells(ours, ',.0f')} | {cells(theirs, ',.0f')} | {cells(by, '.2f')} "
+                   f"| {counts[0]:,.0f}, {counts[1]:,.0f} |")
 
 
 def median_memory(runs, place):
     return f"{statistics.median(run[2][place] for run in runs) / 1e6:.0f}"
+
+
+def tell_memory(here, there):
+    took = [spread([run[1] for run in runs], ".1f") for runs in (here, there)]
+    ours, theirs = ([median_memory(runs, place) for place in range(3)] for runs in (here, there))
+    print(f"It took {took[0]} s here, {took[1]} of Redis. MB: the compaction {ours[1]}, the server before {ours[0]}, "
+          f"meanwhile {ours[2]}; the child of Redis {theirs[1]}, its server before {theirs[0]}, meanwhile {theirs[2]}",
+          flush=True)
 
 
 def tell_pauses(asked, paced):
@@ -331,18 +319,15 @@ def tell_pauses(asked, paced):
             here, there = [], []
             for _ in range(asked.runs):
                 with copied(asked, folders[0]) as folder:
-                    words = program_words(asked.program, CONNECTIONS, "--log", os.path.join(folder, "log"), "--sync", ours)
+                    words = logged_words(asked.program, CONNECTIONS, folder, ours)
                     here.append(one_run(asked, words, folder, compact, paced))
                 with copied(asked, folders[1]) as folder:
                     there.append(one_run(asked, redis_words(folder, theirs), folder, rewrite, paced))
-            print(f"\n`--sync {ours}`, `appendfsync {theirs}`, {asked.rate:,} requests a second, latencies in µs in the "
-                  "middle, at 99 % and 99.9 %\n\n| Requests | Here | Redis | Here by Redis | How many, here and there |\n"
+            print(f"\n`--sync {ours}`, `appendfsync {theirs}`, {asked.rate:,} requests a second: latencies in µs in "
+                  "the middle, at 99 % and 99.9 %\n\n| Requests | Here | Redis | Here by Redis | How many in a run |\n"
                   "|---|---|---|---|---|")
             print("\n".join(pause_lines(here, there)))
-            print(f"It took {spread([run[1] for run in here], '.1f')} s here, "
-                  f"{spread([run[1] for run in there], '.1f')} of Redis. MB: the compaction {median_memory(here, 1)}, "
-                  f"the server before {median_memory(here, 0)}, meanwhile {median_memory(here, 2)}; the child of Redis "
-                  f"{median_memory(there, 1)}, its server {median_memory(there, 0)}, {median_memory(there, 2)}", flush=True)
+            tell_memory(here, there)
 
 
 # ---- restart
@@ -352,7 +337,7 @@ def start_here(asked, folder):
     """How many seconds a start takes, and how many entries it has."""
     port = free_port()
     words = [str(port) if word == "PORT" else word
-             for word in program_words(asked.program, 16, "--log", os.path.join(folder, "log"), "--sync", "no")]
+             for word in logged_words(asked.program, 16, folder, "no")]
     began = time.perf_counter()
     child = subprocess.Popen(words, stderr=subprocess.PIPE, text=True)
     try:

@@ -5,7 +5,8 @@
    So many requests a second are sent over the connections in turn, each at its moment, whether or not those before it
    are answered. Every second connection adds an entry each time; the others read one as new. A line stands for each
    request in the order of the replies: a or r, the moment at which it was due, and how long after that its reply had
-   come, both in microseconds of the monotonic clock. SIGTERM ends it early. An error as a reply ends it with status 1. */
+   come, both in microseconds of the monotonic clock. SIGTERM ends it early. An error as a reply ends it with status
+   1. */
 #define _GNU_SOURCE
 #include <arpa/inet.h>
 #include <netinet/tcp.h>

@@ -86,7 +86,8 @@ class Additions(Events):
 def starts_right(program, folder, events, counts):
     """A start has as many events as one of these counts, replies what is right behind them, and leaves no snapshot that
     isn't whole."""
-    with logged(program, folder, "no", workers=2) as server, Connection(server.port) as one:
+    with (logged(program, folder, "no", workers=2, compact="never") as server,
+          Connection(server.port) as one):
         count = events.told(server.said[-2])
         assert count in counts, f"it has {count} events, and not one of {counts}"
         events.are_there(count, states.ask_all(one, events.questions))
@@ -231,7 +232,8 @@ def follow_closing(program, first, journal, sync):
         shutil.copytree(first, folder)
         journal.begin()
         disk = Disk(folder)
-        with logged(program, folder, sync, environment=journal.environment()) as server, Connection(server.port) as one:
+        with (logged(program, folder, sync, compact="never", environment=journal.environment()) as server,
+              Connection(server.port) as one):
             adder = Adder(one, journal)
             while logs.numbers(folder) == [1]:
                 adder.add()
