@@ -124,7 +124,7 @@ def killed_beside_compactions(program, kills):
                     with compactions.running:
                         cut_last_log(folder, made)
                 with logged(program, folder, port=port) as server:
-                    lead_a_life(server, queue, load, made, life % 7 == 3)
+                    lead_a_life(server, queue, load, made, life % 10 == 3)
                     assert not compactions.faults, compactions.faults
                     if life == kills:
                         load.end()
