@@ -99,7 +99,7 @@ fn publish<R: Files<File = File>>(
     }
 }
 
-/// Makes the snapshot that stands for the closed logs of a folder. If that fails nothing of it is left.
+/// Makes the snapshot that stands for the closed logs of a folder. If that fails nothing unfinished is left.
 fn make_snapshot<R: Files<File = File> + Copy + Drop>(
     rt: &R,
     alloc: Global,
