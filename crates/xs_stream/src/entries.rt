@@ -615,8 +615,7 @@ impl Entries {
         };
         let beside = self.count_beside(low);
         let mut above = BlockCount::new(self.older.range(low..));
-        let mut below =
-            BlockCount::new(self.older.range((Bound::Unbounded, Bound::Excluded(low))));
+        let mut below = BlockCount::new(self.older.range((Bound::Unbounded, Bound::Excluded(low))));
         while !above.count_next(up) {
             if below.count_next(down) {
                 return self.len - (below.count() + beside);

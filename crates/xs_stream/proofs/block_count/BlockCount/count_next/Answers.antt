@@ -14,8 +14,12 @@ overflow_add-self c =
 
 pub returns-in-None-clause-counted : goal.returns-in-None-clause-counted
 returns-in-None-clause-counted c =
-    omega (arith, c.loop-block.invariant.0, ap (λ bs. length (entries_of_blocks (contents bs))) c.in-None.ensures.steps.0,
-        ap (λ bs. length (entries_of_blocks (contents bs))) c.in-None.ensures.steps.1)
+    omega (
+      arith,
+      c.loop-block.invariant.0,
+      ap (λ bs. length (entries_of_blocks (contents bs))) c.in-None.ensures.steps.0,
+      ap (λ bs. length (entries_of_blocks (contents bs))) c.in-None.ensures.steps.1,
+    )
 
 pub loop-block-preserved : goal.loop-block-preserved
 loop-block-preserved c =

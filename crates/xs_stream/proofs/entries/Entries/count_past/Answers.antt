@@ -22,13 +22,14 @@ loop-below-init c =
     let above = ap (λ bs. length (entries_of_blocks (contents bs))) (c.new-above.ensures.left ∙ c.range.ensures.between tt) ∙ ap (λ bs. length (entries_of_blocks bs)) (sym (contents-between (Included low) Unbounded all.older.entries)) in
     let below = ap (λ bs. length (entries_of_blocks (contents bs))) (c.new-below.ensures.left ∙ c.range-2.ensures.between tt) ∙ ap (λ bs. length (entries_of_blocks bs)) (sym (contents-between Unbounded (Excluded low) all.older.entries)) in
     let past = counted-past c.args.cursor low (all_of all) (sym c.next.ensures ∙ c.in-Some.is) c.requires.ids in
-    let found = ap length (from-walk low older newest c.requires.laid_down.filed) in
-    (omega (arith, c.new-above.ensures.none, above, c.count_beside-beside.ensures, past, found, from-split low (later ++ newest), length-append later newest),
-     omega (arith, c.new-below.ensures.none, below, c.count_beside-beside.ensures, past, from-split low (all_of all), below-walk low older newest c.requires.laid_down.filed, c.requires.laid_down.counted),
-     elim c.if-is_nearer_first.branch [
-       | then-is_nearer_first w ↦ omega (arith, ap (λ p. p.0) w.up-is)
-       | else-is_nearer_first w ↦ omega (arith, ap (λ p. p.0) w.up-is)
-     ])
+    let found = ap length (from-walk low older newest c.requires.laid_down.filed) in (
+      omega (arith, c.new-above.ensures.none, above, c.count_beside-beside.ensures, past, found, from-split low (later ++ newest), length-append later newest),
+      omega (arith, c.new-below.ensures.none, below, c.count_beside-beside.ensures, past, from-split low (all_of all), below-walk low older newest c.requires.laid_down.filed, c.requires.laid_down.counted),
+      elim c.if-is_nearer_first.branch [
+        | then-is_nearer_first w ↦ omega (arith, ap (λ p. p.0) w.up-is)
+        | else-is_nearer_first w ↦ omega (arith, ap (λ p. p.0) w.up-is)
+      ],
+    )
 
 pub count_next-requires : goal.count_next-requires
 count_next-requires c = record { fits = omega (arith, c.loop-below.invariant.0, c.loop-below.invariant.1, c.requires.laid_down.small) }
