@@ -6,7 +6,7 @@ ghost use Rattle.std.specs.Cmp.{partial_equiv_from_equiv, ties};
 ghost use Rattle.std.specs.Cmp.Rules.{comparing};
 ghost use Rattle.std.specs.Cmp.Lexicographic.{slice_cmp, pointwise, nat_list_eq_equiv, nat_list_cmp_total, texts_po};
 
-use crate::short::{ROOM, Short};
+use crate::short::{INLINE_BYTES, Short};
 use std::alloc::{AllocError, Global};
 use std::cmp::Ordering;
 use std::fmt::{self, Debug, Formatter};
@@ -53,7 +53,7 @@ impl Bytes {
     pub fn from_slice(alloc: Global, items: &[u8]) -> Result<Self, AllocError>
         ensures { IfOk result (λ b. b ≡ items.now) }
     {
-        if items.len() <= ROOM {
+        if items.len() <= INLINE_BYTES {
             let mut short = Short::new();
             short.extend_from_slice(items);
             return Ok(Self {
@@ -68,7 +68,7 @@ impl Bytes {
         ensures { IfOk result (λ b. b ≡ first.now ++ between ∷ second.now) }
     {
         let len = first.len() + 1 + second.len();
-        if len <= ROOM {
+        if len <= INLINE_BYTES {
             let mut short = Short::new();
             short.extend_from_slice(first);
             short.extend_from_slice(&[between]);

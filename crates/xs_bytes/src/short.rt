@@ -4,12 +4,12 @@ ghost use Rattle.std.specs.Prelude.{◌≡◌, ◌≤◌, ◌+◌, [], ◌++◌,
 use std::marker::Model;
 
 /// So many bytes fit.
-pub const ROOM: usize = 30;
+pub const INLINE_BYTES: usize = 30;
 
 /// At most 30 bytes. They take no memory of their own.
 #[derive(Drop)]
 pub struct Short {
-    room: [u8; ROOM],
+    room: [u8; INLINE_BYTES],
     len: u8,
 }
 
@@ -29,7 +29,7 @@ impl Short {
         ensures { result ≡ [] }
     {
         Self {
-            room: [0; ROOM],
+            room: [0; INLINE_BYTES],
             len: 0,
         }
     }

@@ -29,7 +29,7 @@ pub enum Command {
         key: Bytes,
     },
     /// XRANGE and XREVRANGE.
-    Scan(ScanCommand),
+    Scan(RangeCommand),
     /// XGROUP CREATE.
     GroupCreate(GroupCreateCommand),
     /// XGROUP DESTROY.
@@ -112,7 +112,7 @@ pub struct AddCommand {
 
 /// What XRANGE and XREVRANGE ask for.
 #[derive(Debug, Drop)]
-pub struct ScanCommand {
+pub struct RangeCommand {
     /// The key of the stream.
     pub key: Bytes,
     /// The ids that are looked at.

@@ -33,7 +33,7 @@ mod xtrim;
 
 pub use command::{
     AddCommand, AutoClaimCommand, ClaimCommand, Command, GroupCreateCommand, GroupStart,
-    Inspection, PendingRowsCommand, ReadFrom, ReadGroupCommand, ReadOne, ScanCommand,
+    Inspection, PendingRowsCommand, RangeCommand, ReadFrom, ReadGroupCommand, ReadOne,
 };
 pub use integer::Integer;
 pub use operands::Operands;

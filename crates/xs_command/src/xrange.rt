@@ -2,7 +2,7 @@
 ghost use Rattle.xs_command.specs.Words.{Gives};
 ghost use Rattle.xs_command.specs.Xrange.{xrange, xrevrange};
 
-use crate::command::{Command, ScanCommand};
+use crate::command::{Command, RangeCommand};
 use crate::options::{Options, read_options};
 use crate::refusal::Refusal;
 use crate::word::Word;
@@ -48,7 +48,7 @@ pub(crate) fn read(alloc: Global, words: &Words<'_>) -> Result<Command, Refusal>
     let (low, words) = words.low()?;
     let (high, words) = words.high()?;
     let (options, words) = read_options(alloc, ScanOptions { limit: None }, words)?;
-    let scan = ScanCommand {
+    let scan = RangeCommand {
         key,
         range: Range { low, high },
         limit: options.limit,
@@ -66,7 +66,7 @@ pub(crate) fn read_reversed(alloc: Global, words: &Words<'_>) -> Result<Command,
     let (high, words) = words.high()?;
     let (low, words) = words.low()?;
     let (options, words) = read_options(alloc, ScanOptions { limit: None }, words)?;
-    let scan = ScanCommand {
+    let scan = RangeCommand {
         key,
         range: Range { low, high },
         limit: options.limit,

@@ -8,14 +8,14 @@ use Rattle.xs_desk.specs.declared.lane_end.LaneEnd.{LaneEnd}
 use Rattle.xs_desk.specs.declared.summary.LaneSummary.{LaneSummary}
 use Rattle.xs_desk.specs.History.{LaneOf}
 use Rattle.xs_desk.specs.LaneEnds.{lane_of}
-use Rattle.xs_desk.specs.Callers.{Caller, AreEnds, IsSide}
+use Rattle.xs_desk.specs.Callers.{Caller, AreEndsOfLanes, IsSide}
 use Rattle.xs_desk.specs.Closing.{SumsUp, SumUp}
 use Rattle.xs_desk.proofs.Lists.{same_some, snoc-cases}
 use Rattle.xs_desk.proofs.Looking.{lane_end-at}
 
 -- the seat and the end that were found are the two sides of lane k
 pub side-of : (all : List LaneEnd) (lanes : List LaneOf) (ends0 ends : List Caller) (k at : ℕ) (s : LaneEnd) (e : Caller)
-    → AreEnds lanes ends0 → ends ≡ ends0 → map lane_of all ≡ lanes → k < length all → s ≡ get_or all k s → at < length ends → e ≡ get_or ends at e
+    → AreEndsOfLanes lanes ends0 → ends ≡ ends0 → map lane_of all ≡ lanes → k < length all → s ≡ get_or all k s → at < length ends → e ≡ get_or ends at e
     → ((x : Caller) × (slice_get ends at ≡ Some x) × (x.lane ≡ k))
     → (slice_get lanes k ≡ Some (lane_of s)) × (slice_get ends0 at ≡ Some e) × (e.lane ≡ k) × IsSide (lane_of s) e
 side-of all lanes ends0 ends k at s e are same maps lt q lt' q' found =

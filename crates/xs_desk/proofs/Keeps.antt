@@ -8,7 +8,7 @@ use Rattle.std.proofs.lemmas.List.{length-map}
 use Rattle.std.specs.Option.{option_map}
 use Rattle.xs_desk.specs.History.{Ring, LaneOf, Desk, ServedCall}
 use Rattle.xs_desk.specs.KeeperTurns.{with_call, ServesCall, ServesAll, Turns}
-use Rattle.xs_desk.specs.Callers.{Caller, IsEndOf, AreEnds, IsSide}
+use Rattle.xs_desk.specs.Callers.{Caller, IsEndOf, AreEndsOfLanes, IsSide}
 use Rattle.xs_desk.specs.Opening.{AreNew}
 use Rattle.xs_desk.specs.KeptRings.{rings_of, KeepsRings, KeepsSide, KeepSides}
 use Rattle.xs_desk.proofs.Lists.{some-at, some-of-map, snoc-cases, still-at, last-at}
@@ -38,13 +38,13 @@ new-side k depth (x ∷ xs) (y ∷ ys) a zero c e =
 new-side k depth (x ∷ xs) (y ∷ ys) a (suc i) c e =
     let h = new-side (k + 1) depth xs ys a.1 i c e in (h.0, h.1, h.2, h.3 ∙ omega arith)
 
-pub ends-new : (depth : ℕ) (lanes : List LaneOf) (clients : List Caller) → AreNew 0 depth lanes clients → AreEnds lanes clients
+pub ends-new : (depth : ℕ) (lanes : List LaneOf) (clients : List Caller) → AreNew 0 depth lanes clients → AreEndsOfLanes lanes clients
 ends-new depth lanes clients are i e at =
     let n = new-side 0 depth lanes clients are i e at in
     let lane : e.lane ≡ i = n.3 ∙ omega arith in
     (n.0, ap (λ (j : ℕ). slice_get lanes j) lane ∙ n.1, n.2)
 
-pub ends-turned : (old new : Desk) (ends : List Caller) → AreEnds old.lanes ends → KeepsRings old new → AreEnds new.lanes ends
+pub ends-turned : (old new : Desk) (ends : List Caller) → AreEndsOfLanes old.lanes ends → KeepsRings old new → AreEndsOfLanes new.lanes ends
 ends-turned old new ends are rings i e at =
     let a = are i e at in
     let here : slice_get (map rings_of old.lanes) e.lane ≡ Some (rings_of a.0) = slice_get-map rings_of old.lanes e.lane ∙ ap (option_map rings_of) a.1 in
@@ -52,17 +52,17 @@ ends-turned old new ends are rings i e at =
     let l = some-of-map rings_of new.lanes e.lane (rings_of a.0) there in
     (l.0, l.1, (ap (λ (p : Ring × Ring). p.0) l.2 ∙ a.2.0, ap (λ (p : Ring × Ring). p.1) l.2 ∙ a.2.1))
 
-pub ends-kept : (lanes : List LaneOf) (clients ends : List Caller) → AreEnds lanes clients → KeepSides clients ends → AreEnds lanes ends
+pub ends-kept : (lanes : List LaneOf) (clients ends : List Caller) → AreEndsOfLanes lanes clients → KeepSides clients ends → AreEndsOfLanes lanes ends
 ends-kept lanes clients ends are sides i e at =
     let s = sides i e at in
     let a = are i s.0 s.1 in
     (a.0, ap (λ (j : ℕ). slice_get lanes j) s.2.0 ∙ a.1, (a.2.0 ∙ sym s.2.1, a.2.1 ∙ sym s.2.2))
 
-pub ends-push : (lanes : List LaneOf) (ends : List Caller) (end : Caller) → AreEnds lanes ends → IsEndOf lanes end → AreEnds lanes (ends ++ end ∷ [])
+pub ends-push : (lanes : List LaneOf) (ends : List Caller) (end : Caller) → AreEndsOfLanes lanes ends → IsEndOf lanes end → AreEndsOfLanes lanes (ends ++ end ∷ [])
 ends-push lanes ends end are is i e at = elim (snoc-cases ends end i e at) [ inl p ↦ are i e p | inr p ↦ subst (λ (x : Caller). IsEndOf lanes x) (sym p.1) is ]
 
 -- the last of some ends, and the others
-pub ends-pop : (lanes : List LaneOf) (all ends : List Caller) (end : Caller) → AreEnds lanes all → all ≡ ends ++ end ∷ [] → AreEnds lanes ends × IsEndOf lanes end
+pub ends-pop : (lanes : List LaneOf) (all ends : List Caller) (end : Caller) → AreEndsOfLanes lanes all → all ≡ ends ++ end ∷ [] → AreEndsOfLanes lanes ends × IsEndOf lanes end
 ends-pop lanes all ends end are is = (
   (λ i e at. are i e (ap (λ (xs : List Caller). slice_get xs i) is ∙ still-at ends end i e at)),
   are (length ends) end (ap (λ (xs : List Caller). slice_get xs (length ends)) is ∙ last-at ends end),

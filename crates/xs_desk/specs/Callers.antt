@@ -45,9 +45,9 @@ abbrev pub IsEndOf : List LaneOf → Caller → Type 0
 IsEndOf lanes end = (lane : LaneOf) × (slice_get lanes end.lane ≡ Some lane) × IsSide lane end
 
 -- each of these is
-abbrev pub AreEnds : List LaneOf → List Caller → Type 0
-AreEnds lanes ends = (i : ℕ) (end : Caller) → slice_get ends i ≡ Some end → IsEndOf lanes end
+abbrev pub AreEndsOfLanes : List LaneOf → List Caller → Type 0
+AreEndsOfLanes lanes ends = (i : ℕ) (end : Caller) → slice_get ends i ≡ Some end → IsEndOf lanes end
 
 -- an end of lane k is there
-abbrev pub HasEnd : List Caller → ℕ → Type 0
-HasEnd ends k = (i : ℕ) × (end : Caller) × (slice_get ends i ≡ Some end) × (end.lane ≡ k)
+abbrev pub HasEndOfLane : List Caller → ℕ → Type 0
+HasEndOfLane ends k = (i : ℕ) × (end : Caller) × (slice_get ends i ≡ Some end) × (end.lane ≡ k)

@@ -5,7 +5,7 @@ use Rattle.xs_desk.specs.declared.closing.CloseError.{CloseError}
 use Rattle.xs_desk.specs.declared.closing.CloseError.TheVariants.{Unfinished, Memory}
 use Rattle.xs_desk.specs.declared.summary.LaneSummary.{LaneSummary}
 use Rattle.xs_desk.specs.History.{LaneOf, Desk}
-use Rattle.xs_desk.specs.Callers.{Caller, HasEnd}
+use Rattle.xs_desk.specs.Callers.{Caller, HasEndOfLane}
 
 -- The calls that were taken from the lane are the first of those submitted, each of them was answered, and the answers
 -- taken are the first of those sent. The summary counts these lists and what is left of them.
@@ -32,6 +32,6 @@ AreEven lanes = (k : ℕ) (lane : LaneOf) → slice_get lanes k ≡ Some lane �
 -- both arguments come back, and an end is missing, or none is
 abbrev pub IsRefused : Desk → List Caller → CloseError → Type 0
 IsRefused desk ends (Unfinished keeper ended) =
-    (keeper ≡ desk) × (ended.items ≡ ends) × ((k : ℕ) × (k < length desk.lanes) × (HasEnd ends k → ⊥))
+    (keeper ≡ desk) × (ended.items ≡ ends) × ((k : ℕ) × (k < length desk.lanes) × (HasEndOfLane ends k → ⊥))
 IsRefused desk ends (Memory keeper ended) =
-    (keeper ≡ desk) × (ended.items ≡ ends) × ((k : ℕ) → k < length desk.lanes → HasEnd ends k)
+    (keeper ≡ desk) × (ended.items ≡ ends) × ((k : ℕ) → k < length desk.lanes → HasEndOfLane ends k)

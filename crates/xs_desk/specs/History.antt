@@ -4,7 +4,7 @@ use Rattle.std.specs.declared.alloc.Global.{Global}
 use Rattle.rtrb.specs.Shared.{Names}
 use denote.RawPtr.{Ptr}
 use Rattle.xs_resp.specs.declared.reply.Reply.{Reply}
-use Rattle.xs_keys.specs.Event.{History}
+use Rattle.xs_keys.specs.Event.{Event}
 use Rattle.xs_command.specs.declared.command.Command.{Command}
 use Rattle.xs_command.specs.WellFormed.{IsWellFormed}
 use Rattle.xs_keys.specs.Content.{Content}
@@ -50,7 +50,7 @@ abbrev pub answers_of : List ServedCall → List Answer
 answers_of calls = map (λ call. call.answer) calls
 
 -- each command at the moment that its answer tells
-abbrev pub events_of : List ServedCall → History
+abbrev pub events_of : List ServedCall → List Event
 events_of calls = map (λ call. (call.answer.moment, call.command)) calls
 
 abbrev pub replies_of : List ServedCall → List Reply

@@ -5,7 +5,7 @@ ghost use Rattle.xs_bytes.specs.SortedMap.{empty};
 ghost use Rattle.xs_keys.specs.Headline.{RunsOn};
 ghost use Rattle.xs_desk.specs.History.{ServedCall, IsHistory, events_of, replies_of};
 ghost use Rattle.xs_desk.specs.LaneEnds.{lane_of};
-ghost use Rattle.xs_desk.specs.Callers.{Caller, AreEnds, HasEnd, IsSide};
+ghost use Rattle.xs_desk.specs.Callers.{Caller, AreEndsOfLanes, HasEndOfLane, IsSide};
 ghost use Rattle.xs_desk.specs.Closing.{SumsUp, SumUp, AreEven, IsRefused};
 
 use crate::client::Ended;
@@ -27,7 +27,7 @@ pub enum CloseError {
 fn end_of(ended: &Vec<Ended>, lane: usize) -> Option<usize>
     ensures found { IfSome result (λ i. (i < length ended.now.items)
         × ((end : Caller) × (slice_get ended.now.items i ≡ Some end) × (end.lane ≡ lane))) }
-    ensures none { IfNone result (HasEnd ended.now.items lane → ⊥) }
+    ensures none { IfNone result (HasEndOfLane ended.now.items lane → ⊥) }
 {
     for i in 0..ended.len() {
         let end = &ended[i];
@@ -39,8 +39,8 @@ fn end_of(ended: &Vec<Ended>, lane: usize) -> Option<usize>
 }
 
 fn has_all(ended: &Vec<Ended>, lanes: usize) -> bool
-    ensures yes { IsTrue result → (k : ℕ) → k < lanes → HasEnd ended.now.items k }
-    ensures no { IsFalse result → (k : ℕ) × (k < lanes) × (HasEnd ended.now.items k → ⊥) }
+    ensures yes { IsTrue result → (k : ℕ) → k < lanes → HasEndOfLane ended.now.items k }
+    ensures no { IsFalse result → (k : ℕ) × (k < lanes) × (HasEndOfLane ended.now.items k → ⊥) }
 {
     for k in 0..lanes {
         if end_of(ended, k).is_none() {
@@ -71,8 +71,8 @@ fn sum_up(lane_end: &mut LaneEnd, end: &mut Ended) -> LaneSummary
 /// Sums up each lane. The room for it was made before, and the ends are all there.
 fn sum_up_all(lane_ends: &mut Vec<LaneEnd>, ended: &mut Vec<Ended>, lanes: &mut Vec<LaneSummary>)
     requires room { (lanes.old.items ≡ []) × (length lane_ends.old.items ≤ vec_capacity lanes.old) }
-    requires ends { AreEnds (map lane_of lane_ends.old.items) ended.old.items }
-    requires all { (k : ℕ) → k < length lane_ends.old.items → HasEnd ended.old.items k }
+    requires ends { AreEndsOfLanes (map lane_of lane_ends.old.items) ended.old.items }
+    requires all { (k : ℕ) → k < length lane_ends.old.items → HasEndOfLane ended.old.items k }
     requires even { AreEven (map lane_of lane_ends.old.items) }
     ensures { SumUp (map lane_of lane_ends.old.items) ended.old.items (length lane_ends.old.items) lanes.new.items }
 {
@@ -95,7 +95,7 @@ fn sum_up_all(lane_ends: &mut Vec<LaneEnd>, ended: &mut Vec<Ended>, lanes: &mut 
 /// # Errors
 /// A `CloseError`.
 pub fn close(alloc: Global, keeper: Keeper, ended: Vec<Ended>) -> Result<Summary, CloseError>
-    requires { AreEnds keeper.lanes ended.items }
+    requires { AreEndsOfLanes keeper.lanes ended.items }
     ensures lanes { IfOk result (λ summary. SumUp keeper.lanes ended.items (length keeper.lanes) summary.lanes.items) }
     ensures history { IfOk result (λ summary. (history : List ServedCall) × IsHistory history keeper
         × RunsOn empty (events_of history) (replies_of history) summary.keyspace) }

@@ -10,7 +10,7 @@ use std::io::ErrorKind;
 use std::rt::Files;
 
 /// Closed logs of so many bytes, 64 MiB, are no reason for a compaction.
-const ENOUGH: u64 = 67_108_864;
+const LEAST_CLOSED: u64 = 67_108_864;
 
 /// How many bytes a compaction would read.
 #[derive(Clone, Copy, Debug, PartialEq, Eq)]
@@ -27,7 +27,7 @@ impl Sizes {
     pub fn is_due(&self) -> bool
         ensures { IsTrue result ↔ ((self.now.snapshot < self.now.closed) × (67108864 < self.now.closed)) }
     {
-        self.closed > self.snapshot && self.closed > ENOUGH
+        self.closed > self.snapshot && self.closed > LEAST_CLOSED
     }
 }
 

@@ -7,7 +7,7 @@ use std::fs::File;
 use std::io::Read;
 use std::rt::Files;
 use std::sync::Arc;
-use xs_devices::{Failed, Source};
+use xs_io::{Failed, Source};
 use xs_trace::Trace;
 
 /// The file of a log, or of a snapshot.

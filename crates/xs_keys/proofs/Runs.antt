@@ -6,7 +6,7 @@ use Rattle.xs_command.specs.WellFormed.{IsWellFormed}
 use Rattle.xs_keys.specs.Terms.{Reply, Command}
 use Rattle.xs_keys.specs.Content.{Content, IsContent}
 use Rattle.xs_keys.specs.RepliesTell.{IsTold}
-use Rattle.xs_keys.specs.EachReply.{Follows, AreReplied}
+use Rattle.xs_keys.specs.EachReply.{JoinsOrIsLeftOut, AreReplied}
 use Rattle.xs_keys.specs.Headline.{AreWellFormed, AtEachEvent, LivesAreApart, Headline, RunsOn}
 use Rattle.xs_keys.specs.EachDelivery.{DeliversNew}
 use Rattle.xs_keys.specs.EachOwner.{OwnersAndClaims}
@@ -48,7 +48,7 @@ runs-none old events = λ past is. (past, is, λ answers last done. done)
 
 -- how a step goes on with a history
 pub step-follows : (past : History) (old new : Content) (now : ℕ) (command : Command) (answer : Reply) → IsWellFormed command → IsContent old past → Step old now command answer new
-    → (next : History) × IsContent new next × Follows past now command answer next
+    → (next : History) × IsContent new next × JoinsOrIsLeftOut past now command answer next
 step-follows past old new now command answer formed is (inl applied) = (
   (now, command) ∷ past,
   subst (λ c. IsContent c ((now, command) ∷ past)) (sym applied.content_is) (content-step past old now command is),
@@ -115,7 +115,7 @@ formed-after past [] [] history are formed = subst AreWellFormed (sym are) forme
 formed-after past [] (reply ∷ replies) history are formed = absurd are
 formed-after past (e ∷ events) [] history are formed = absurd are
 formed-after past (e ∷ events) (reply ∷ replies) history (next, follows, rest) formed = formed-after next events replies history rest (by follows) where
-  by : Follows past e.0 e.1 reply next → AreWellFormed next
+  by : JoinsOrIsLeftOut past e.0 e.1 reply next → AreWellFormed next
   by (inl (answered, is)) = subst AreWellFormed (sym is) (answered.formed, formed)
   by (inr (left_out, is)) = subst AreWellFormed (sym is) formed
 

@@ -27,8 +27,8 @@ pub record IsLeftOut (past : History) (now : ℕ) (command : Command) (answer : 
   pub answer_is : answer ≡ Error Memory
 
 -- over a past, at a moment, a command is answered so, and this history follows: the event joins it, or is left out
-abbrev pub Follows : History → ℕ → Command → Reply → History → Type 0
-Follows past now command answer next =
+abbrev pub JoinsOrIsLeftOut : History → ℕ → Command → Reply → History → Type 0
+JoinsOrIsLeftOut past now command answer next =
     (IsReplied past now command answer × (next ≡ (now, command) ∷ past))
     ⊎ (IsLeftOut past now command answer × (next ≡ past))
 
@@ -37,5 +37,5 @@ Follows past now command answer next =
 abbrev pub AreReplied : History → List Event → List Reply → History → Type 0
 AreReplied past [] [] last = last ≡ past
 AreReplied past (e ∷ run) (answer ∷ answers) last =
-    (next : History) × Follows past (event_moment e) (event_command e) answer next × AreReplied next run answers last
+    (next : History) × JoinsOrIsLeftOut past (event_moment e) (event_command e) answer next × AreReplied next run answers last
 AreReplied past _ _ last = ⊥

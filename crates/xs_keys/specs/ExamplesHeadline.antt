@@ -16,7 +16,7 @@ use Rattle.xs_keys.specs.GroupEvent.{GroupEvent}
 use Rattle.xs_keys.specs.GroupAsk.{read_new, acknowledge, create_consumer}
 use Rattle.xs_keys.specs.GroupLife.{GroupLife, LifeContinues}
 use Rattle.xs_keys.specs.EachOwner.{OwnerAfter, AfterNoOwner}
-use Rattle.xs_keys.specs.EachReply.{Follows, AreReplied}
+use Rattle.xs_keys.specs.EachReply.{JoinsOrIsLeftOut, AreReplied}
 use Rattle.xs_keys.specs.Step.{is_error}
 use Rattle.xs_keys.specs.Adding.{Adds}
 use Rattle.xs_keys.specs.Grouping.{Creates}
@@ -60,7 +60,7 @@ pub record AnswersGoOn : Type 0 where
   pub an_error : is_error (Error NoKey) ≡ true
   pub a_number : is_error (Int 0) ≡ false
   pub nothing : is_error NullBulk ≡ false
-  pub follows : Follows (ping 4 ∷ []) 5 (Ping None) (Simple Pong) (ping 5 ∷ ping 4 ∷ [])
+  pub follows : JoinsOrIsLeftOut (ping 4 ∷ []) 5 (Ping None) (Simple Pong) (ping 5 ∷ ping 4 ∷ [])
   pub none : AreReplied (ping 4 ∷ []) [] [] (ping 4 ∷ [])
   pub two : AreReplied [] (ping 4 ∷ ping 5 ∷ []) (Simple Pong ∷ Simple Pong ∷ []) (ping 5 ∷ ping 4 ∷ [])
   pub not_one_for_two : AreReplied [] (ping 4 ∷ ping 5 ∷ []) (Simple Pong ∷ []) (ping 4 ∷ []) → ⊥

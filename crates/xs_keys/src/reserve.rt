@@ -8,7 +8,7 @@ use std::marker::Model;
 const PIECES: usize = 64;
 
 /// How many bytes a piece has. The C library maps greater ones by themselves, and gives them back to the system.
-const PIECE: usize = 65_000;
+const PIECE_BYTES: usize = 65_000;
 
 /// Up to so many bytes a reply has room in the pieces.
 const SMALL_REPLY: usize = 1 << 20;
@@ -92,7 +92,7 @@ impl Reserve {
         if self.left_free == 0 {
             return Ok(());
         }
-        if self.unlooked != 0 && self.unlooked < PIECE {
+        if self.unlooked != 0 && self.unlooked < PIECE_BYTES {
             self.unlooked = self.unlooked.saturating_add(reply_bytes);
             return Ok(());
         }
@@ -115,7 +115,7 @@ impl Reserve {
         ensures { OnOk result (self.new ≡ 64) }
     {
         while self.pieces.len() < PIECES {
-            let piece = Vec::with_capacity(alloc, PIECE)?;
+            let piece = Vec::with_capacity(alloc, PIECE_BYTES)?;
             self.pieces.push(piece)?;
         }
         let greatest = reply_bytes.max(self.greatest);

@@ -7,12 +7,12 @@ ghost use Rattle.xs_keys.specs.Step.{StepAtAnyTime};
 use crate::keys::Keys;
 use crate::showing::lent_entries;
 use std::alloc::{AllocError, Global};
-use xs_command::{Command, ScanCommand};
+use xs_command::{Command, RangeCommand};
 use xs_resp::{Fault, Replies, Reply, Tokens};
 use xs_stream::Stream;
 
 /// The entries of a range of a stream.
-fn range_shown(alloc: Global, stream: &Stream, command: &ScanCommand) -> Result<Reply, AllocError>
+fn range_shown(alloc: Global, stream: &Stream, command: &RangeCommand) -> Result<Reply, AllocError>
     ensures { let entries = stream.now.entries in
         let ids = up_to_limit command.now.limit (ids_within command.now.range command.now.reversed entries) in
         IfOk result (λ reply. reply ≡ entries_reply entries ids) }
@@ -22,7 +22,7 @@ fn range_shown(alloc: Global, stream: &Stream, command: &ScanCommand) -> Result<
 }
 
 /// The entries of a range of a key.
-pub fn range(keys: &Keys, alloc: Global, command: &ScanCommand) -> Reply
+pub fn range(keys: &Keys, alloc: Global, command: &RangeCommand) -> Reply
     ensures { StepAtAnyTime keys.now (Command.Scan command.now) result keys.now }
 {
     let Some(slot) = keys.get(&command.key) else {

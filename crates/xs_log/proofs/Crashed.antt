@@ -3,7 +3,7 @@ use Rattle.std.proofs.Common.{◌≡◌, ℕ, ◌+◌, ◌≤◌, List, ◌++◌
 use Rattle.std.specs.Prelude.{Result, Ok, Err, IfOk, OnOk}
 use Rattle.std.specs.List.{AllByRecursion}
 use Rattle.std.specs.Io.KnownBytes as std
-use Rattle.xs_devices.specs.Passing.{Passing, Consumes, IsAtEnd}
+use Rattle.xs_io.specs.Passing.{Passing, Consumes, IsAtEnd}
 use Rattle.std.proofs.lemmas.List.{append-nil}
 use Rattle.xs_keys.specs.Event.{Event}
 use Rattle.xs_keys.specs.Content.{Content}

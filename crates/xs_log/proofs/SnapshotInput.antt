@@ -5,8 +5,8 @@ use Rattle.std.proofs.lemmas.Bool.{eqb-true}
 use Rattle.std.specs.Prelude.{◌==◌, Bool, true, false, not, Result, Ok, Err, MatchOption}
 use Rattle.std.specs.List.{AllByRecursion}
 use Rattle.std.specs.Io.KnownBytes as std
-use Rattle.xs_devices.specs.Passing.{Passing, Consumes, IsAtEnd}
-use Rattle.xs_devices.proofs.Passing.{Consumes-nil, Consumes-trans}
+use Rattle.xs_io.specs.Passing.{Passing, Consumes, IsAtEnd}
+use Rattle.xs_io.proofs.Passing.{Consumes-nil, Consumes-trans}
 use Rattle.xs_resp.specs.declared.read_fault.ReadFault.{ReadFault}
 use Rattle.xs_resp.specs.Outcome.{Keeps}
 use Rattle.xs_resp.specs.HeldBytes.{Held, with_piece, Ready, HasNext, front_of, holds_bytes}

@@ -2,7 +2,7 @@
 use Rattle.std.proofs.Common.{◌≡◌, ℕ, ◌+◌, List, [], ◌∷◌, ◌++◌, map, length, Option, Some, sym, ap, ◌∙◌, subst, arith, append_assoc, length-append}
 use Rattle.std.proofs.lemmas.List.{append-nil}
 use Rattle.std.specs.List.{AllByRecursion}
-use Rattle.xs_devices.specs.Passing.{Passing, Consumes, IsAtEnd}
+use Rattle.xs_io.specs.Passing.{Passing, Consumes, IsAtEnd}
 use Rattle.xs_resp.specs.HeldBytes.{Held}
 use Rattle.xs_tape.specs.Records.{CanBeSpelled, spellings}
 use Rattle.xs_replay.specs.Pieces.{Piece}

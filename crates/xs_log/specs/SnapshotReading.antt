@@ -1,7 +1,7 @@
 -- How far a snapshot was read.
 use Rattle.std.specs.Prelude.{◌≡◌, ◌⊎◌, ℕ, ◌^◌, ◌<◌, List, ◌++◌, length, Option, Some, Ok}
 use Rattle.std.specs.List.{AllByRecursion}
-use Rattle.xs_devices.specs.Passing.{Passing, Consumes, IsAtEnd}
+use Rattle.xs_io.specs.Passing.{Passing, Consumes, IsAtEnd}
 use Rattle.xs_resp.specs.HeldBytes.{Held}
 use Rattle.xs_tape.specs.Records.{CanBeSpelled, spellings}
 use Rattle.xs_replay.specs.Pieces.{Piece}

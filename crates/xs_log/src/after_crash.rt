@@ -1,6 +1,6 @@
 //! What a crash has left of the logs on a tape.
 ghost use Rattle.std.specs.Prelude.{◌≡◌, ℕ, List, Bool, None, Some, drop, map, IfOk, MatchResult};
-ghost use Rattle.xs_devices.specs.Passing.{known_by};
+ghost use Rattle.xs_io.specs.Passing.{known_by};
 ghost use Rattle.xs_bytes.specs.SortedMap.{empty};
 ghost use Rattle.xs_replay.specs.After.{contents_after, moment_after};
 ghost use Rattle.xs_keys.specs.Event.{Event};
@@ -14,7 +14,7 @@ ghost use Rattle.xs_log.specs.TapeLog.{IsLogOnTape};
 use crate::logs::{LogsFault, recover};
 use crate::reading::{Extent, Recovered};
 use std::alloc::Global;
-use xs_devices::Source;
+use xs_io::Source;
 
 /// Reads the files of a tape, the closed ones and the last one. It gives what their events leave, and how far the last
 /// one goes: there it has to be cut before events are noted again.

@@ -1,6 +1,6 @@
 //! A log that is closed: all of it was kept before the next one began.
 ghost use Rattle.std.specs.Prelude.{◌≡◌, ◌≢◌, ℕ, List, true, false, Some, IfErr, OnOk};
-ghost use Rattle.xs_devices.specs.Passing.{known_by, Consumes, IsAtEnd};
+ghost use Rattle.xs_io.specs.Passing.{known_by, Consumes, IsAtEnd};
 ghost use Rattle.xs_keys.specs.Event.{Event};
 ghost use Rattle.xs_replay.specs.After.{contents_after, moment_after};
 ghost use Rattle.xs_log.specs.Fault.{IsWant};
@@ -9,7 +9,7 @@ ghost use Rattle.xs_log.specs.Reading.{IsClosedLog};
 use crate::fault::LogFault;
 use crate::reading::{Extent, Recovered, read_log};
 use std::alloc::Global;
-use xs_devices::Source;
+use xs_io::Source;
 
 /// Whether a log has its header, and no part of a record behind the whole ones.
 fn is_closed(extent: Extent) -> bool

@@ -1,6 +1,6 @@
 //! The last log, which a crash may have torn.
 ghost use Rattle.std.specs.Prelude.{◌≡◌, ◌+◌, ◌≤◌, ℕ, List, Some, length, take, drop, IfOk, IfErr, OnOk};
-ghost use Rattle.xs_devices.specs.Passing.{known_by};
+ghost use Rattle.xs_io.specs.Passing.{known_by};
 ghost use Rattle.xs_keys.specs.Event.{Event};
 ghost use Rattle.xs_tape.specs.Crash.{before_zero};
 ghost use Rattle.xs_tape.specs.Heads.{MayBeCut};
@@ -12,7 +12,7 @@ ghost use Rattle.xs_log.specs.Logs.{CrashLeavesLog};
 use crate::fault::LogFault;
 use crate::reading::{Extent, Recovered, read_log};
 use std::alloc::Global;
-use xs_devices::Source;
+use xs_io::Source;
 use xs_tape::BeforeZero;
 
 /// Reads the last log, up to its first zero byte, onto what the logs before it left. Its file has to be cut behind the

@@ -1,6 +1,6 @@
 //! All logs of a server, in their order.
 ghost use Rattle.std.specs.Prelude.{◌≡◌, ◌+◌, ◌≤◌, ◌++◌, ℕ, List, Some, length, take, drop, IfErr, IfOk};
-ghost use Rattle.xs_devices.specs.Passing.{known_by};
+ghost use Rattle.xs_io.specs.Passing.{known_by};
 ghost use Rattle.xs_keys.specs.Event.{Event};
 ghost use Rattle.xs_tape.specs.Crash.{before_zero};
 ghost use Rattle.xs_tape.specs.Heads.{MayBeCut};
@@ -15,7 +15,7 @@ use crate::last::read_last_log;
 use crate::reading::{Extent, Recovered};
 use std::alloc::Global;
 use thiserror::Error;
-use xs_devices::Source;
+use xs_io::Source;
 
 /// Why logs aren't read: the first of them, by its number, that isn't, and why.
 #[derive(Clone, Copy, Debug, PartialEq, Eq, Error)]

@@ -1,7 +1,7 @@
 //! A log that is read, and its events applied.
 ghost use Rattle.std.specs.Prelude.{◌≡◌, ◌≢◌, ◌⊎◌, [], ℕ, List, Option, None, Some, Ok, Err, false, length, drop};
 ghost use Rattle.std.specs.Prelude.{IfOk, IfErr, OnOk};
-ghost use Rattle.xs_devices.specs.Passing.{known_by, Consumes, IsAtEnd};
+ghost use Rattle.xs_io.specs.Passing.{known_by, Consumes, IsAtEnd};
 ghost use Rattle.xs_bytes.specs.SortedMap.{empty};
 ghost use Rattle.xs_resp.specs.Reading.{request};
 ghost use Rattle.xs_resp.specs.Grammar.{spelling};
@@ -17,7 +17,7 @@ use crate::fault::LogFault;
 use crate::header::check_header;
 use crate::record::{RecordFault, read_record};
 use std::alloc::Global;
-use xs_devices::{Fill, FillFault, Source};
+use xs_io::{Fill, FillFault, Source};
 use xs_keys::Keyspace;
 use xs_resp::{Fault, Reply, Request, Requests};
 use xs_stream::Moment;

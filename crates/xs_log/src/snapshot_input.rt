@@ -1,7 +1,7 @@
 //! The requests of a snapshot, read from a source one by one.
 ghost use Rattle.std.specs.Prelude.{◌≡◌, ◌∷◌, [], ◌++◌, ℕ, List, Option, Ok, true, false, length};
 ghost use Rattle.std.specs.Prelude.{IfOk, IfErr, OnOk, MatchOption};
-ghost use Rattle.xs_devices.specs.Passing.{Passing, Consumes, IsAtEnd};
+ghost use Rattle.xs_io.specs.Passing.{Passing, Consumes, IsAtEnd};
 ghost use Rattle.xs_resp.specs.HeldBytes.{HasNext};
 ghost use Rattle.xs_resp.specs.Reading.{request};
 ghost use Rattle.xs_tape.specs.Records.{spellings};
@@ -18,7 +18,7 @@ use crate::snapshot_fault::SnapshotFault;
 use crate::snapshot_header::read_header;
 use crate::snapshot_record::read_piece;
 use std::alloc::Global;
-use xs_devices::{Fill, FillFault, Source};
+use xs_io::{Fill, FillFault, Source};
 use xs_resp::Requests;
 use xs_stream::Moment;
 

@@ -1,6 +1,6 @@
 //! A reader of a snapshot, piece by piece.
 ghost use Rattle.std.specs.Prelude.{◌≡◌, ◌∷◌, [], ◌++◌, ℕ, List, Option, Some, IfOk, IfErr, MatchOption};
-ghost use Rattle.xs_devices.specs.Passing.{Passing, known_by};
+ghost use Rattle.xs_io.specs.Passing.{Passing, known_by};
 ghost use Rattle.xs_replay.specs.Pieces as content;
 ghost use Rattle.xs_log.specs.PieceOf.{piece_of};
 ghost use Rattle.xs_log.specs.SnapshotFault.{HasRunOut};
@@ -12,7 +12,7 @@ use crate::snapshot_fault::SnapshotFault;
 use crate::snapshot_input::{take_end, take_header, take_piece};
 use std::alloc::Global;
 use std::marker::Model;
-use xs_devices::Source;
+use xs_io::Source;
 use xs_resp::Requests;
 use xs_stream::Moment;
 

@@ -7,7 +7,7 @@ use crate::word::rest_of;
 use std::alloc::{AllocError, Global};
 use std::marker::Model;
 use xs_bytes::{Bytes, List};
-use xs_devices::{Fill, FillFault, Input, Source};
+use xs_io::{Fill, FillFault, Input, Source};
 
 /// Where a reader stands.
 #[derive(Clone, Copy, Debug, PartialEq, Eq)]

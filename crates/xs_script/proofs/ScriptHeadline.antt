@@ -8,10 +8,10 @@ use Rattle.xs_command.specs.declared.command.Command.{Command}
 use Rattle.xs_command.proofs.FormedReads.{given_formed}
 use Rattle.xs_keys.specs.Event.{History}
 use Rattle.xs_keys.specs.Content.{Content, IsContent}
-use Rattle.xs_devices.specs.Device.{counter_at}
+use Rattle.xs_io.specs.Device.{counter_at}
 use Rattle.xs_script.specs.Line.{line_of}
 use Rattle.xs_script.specs.Answering.{Answered, IsAnswer}
-use Rattle.xs_keys.specs.EachReply.{Follows, AreReplied}
+use Rattle.xs_keys.specs.EachReply.{JoinsOrIsLeftOut, AreReplied}
 use Rattle.xs_keys.proofs.Runs.{step-follows, headline}
 use Rattle.xs_script.specs.Script.{Script, Served, AreServed, events_of_lines, answers_of_lines, IsScript}
 use Rattle.xs_keys.specs.Step.{StepAt}
@@ -19,7 +19,7 @@ use Rattle.std.specs.List.{flat_map}
 
 -- how an answer of the keyspace goes on with a history
 pub answer-follows : (past : History) (old new : Content) (now : ℕ) (words : List (List ℕ)) (asked : Option Command) (answer : Reply) → IsContent old past
-    → Answered (StepAt now) old words asked answer new → (next : History) × IsContent new next × Answered (λ before. Follows before now) past words asked answer next
+    → Answered (StepAt now) old words asked answer new → (next : History) × IsContent new next × Answered (λ before. JoinsOrIsLeftOut before now) past words asked answer next
 answer-follows past old new now words (Some command) answer is said =
     let next = step-follows past old new now command answer (given_formed words (Ok command) said.0) is said.1 in
     (next.0, next.1, (said.0, next.2))
@@ -27,12 +27,12 @@ answer-follows past old new now words None answer is said = (past, subst (λ c. 
 
 -- one line more
 pub script-more : (past : History) (lines : List (List ℕ)) (line : List ℕ) (out : List ℕ) (mid next : History) (answer : Reply)
-    → Script past lines out mid → IsSomeAnd (line_of line) (λ request. IsAnswer (λ before. Follows before request.0) mid request.1 answer next) → Script past (lines ++ line ∷ []) (out ++ text answer) next
+    → Script past lines out mid → IsSomeAnd (line_of line) (λ request. IsAnswer (λ before. JoinsOrIsLeftOut before request.0) mid request.1 answer next) → Script past (lines ++ line ∷ []) (out ++ text answer) next
 script-more past [] line out mid next answer so_far answered = (
   answer,
   next,
   [],
-  subst (λ p. IsSomeAnd (line_of line) (λ request. IsAnswer (λ before. Follows before request.0) p request.1 answer next)) so_far.1 answered,
+  subst (λ p. IsSomeAnd (line_of line) (λ request. IsAnswer (λ before. JoinsOrIsLeftOut before request.0) p request.1 answer next)) so_far.1 answered,
   ap (λ o. o ++ text answer) so_far.0 ∙ sym (append-nil (text answer)),
   (refl, refl),
 )
@@ -41,7 +41,7 @@ script-more past (first ∷ lines) line out mid next answer (reply, then, more, 
 
 line-answered : (past : History) (old new : Content) (read : Option (ℕ × List (List ℕ))) (answer : Reply) → IsContent old past
     → IsSomeAnd read (λ request. IsAnswer (StepAt request.0) old request.1 answer new)
-    → (next : History) × IsContent new next × IsSomeAnd read (λ request. IsAnswer (λ before. Follows before request.0) past request.1 answer next)
+    → (next : History) × IsContent new next × IsSomeAnd read (λ request. IsAnswer (λ before. JoinsOrIsLeftOut before request.0) past request.1 answer next)
 line-answered past old new (Some request) answer is serves =
     let next = answer-follows past old new request.0 request.1 serves.0 answer is serves.1 in
     (next.0, next.1, (serves.0, next.2))
@@ -65,7 +65,7 @@ pub record ServesFrom (past : History) (lines : List (List ℕ)) (out : List ℕ
   pub out_is : out ≡ flat_map (λ one. text one.answer) served
 
 serves-more : (past : History) (line : List ℕ) (lines : List (List ℕ)) (out more : List ℕ) (next last : History) (answer : Reply)
-    → (read : Option (ℕ × List (List ℕ))) → line_of line ≡ read → IsSomeAnd read (λ request. IsAnswer (λ before. Follows before request.0) past request.1 answer next)
+    → (read : Option (ℕ × List (List ℕ))) → line_of line ≡ read → IsSomeAnd read (λ request. IsAnswer (λ before. JoinsOrIsLeftOut before request.0) past request.1 answer next)
     → out ≡ text answer ++ more → ServesFrom next lines more last → ServesFrom past (line ∷ lines) out last
 serves-more past line lines out more next last answer None e said is rest = absurd said
 serves-more past line lines out more next last answer (Some request) e (Some command, said) is rest = record {

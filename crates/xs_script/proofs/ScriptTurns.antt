@@ -6,7 +6,7 @@ use Rattle.std.proofs.lemmas.List.{append-nil, take-append-drop, length-take-le}
 use Rattle.std.proofs.lemmas.Bool.{false≢true}
 use Rattle.std.proofs.lemmas.Bool.Decides.{nat_tests}
 use Rattle.std.specs.List.{flat_map, list_any}
-use Rattle.xs_devices.specs.Passing.{Passing, IsAtEnd}
+use Rattle.xs_io.specs.Passing.{Passing, IsAtEnd}
 use Rattle.xs_resp.specs.declared.reply.Reply.{Reply}
 use Rattle.xs_resp.specs.ReplyText.{text}
 use Rattle.xs_keys.specs.Content.{Content}
@@ -14,12 +14,12 @@ use Rattle.xs_script.specs.declared.state.Script.{Script as State}
 use Rattle.xs_script.specs.declared.fault.ScriptFault.{ScriptFault}
 use Rattle.xs_script.specs.declared.fault.ScriptFault.TheVariants as fault
 use Rattle.xs_script.specs.Answering.{IsAnswer}
-use Rattle.xs_devices.specs.Device.{counter_at}
+use Rattle.xs_io.specs.Device.{counter_at}
 use Rattle.xs_script.specs.Line.{is_line_end, script_lines, line_of, line_limit}
 use Rattle.xs_script.specs.Cause.{Cause, input, reader, writer}
 use Rattle.xs_script.specs.Script.{Script, IsScript, with_end}
 use Rattle.xs_keys.specs.Step.{StepAt}
-use Rattle.xs_script.specs.ScriptRun.{piece, IsFew, IsRead, IsInHand, IsReadOut, IsPaid, ScriptStands, EndsOncePaid, RunsBy}
+use Rattle.xs_script.specs.ScriptRun.{piece, IsFew, IsRead, IsInHand, IsReadOut, IsWritten, ScriptIsAfter, EndsOnceWritten, RunsBy}
 use Rattle.xs_script.proofs.ScriptLines.{read-more, read-line, read-lines, lines-last}
 use Rattle.xs_script.proofs.ScriptHeadline.{served-line, is-script, capped-more, capped-sent}
 
@@ -52,9 +52,9 @@ few-with-more held got none small = λ line rest e other. omega (arith, few-behi
 -- ---- how a script goes on
 
 -- one line more is answered
-pub stands-more : (read sent : List ℕ) (script later : State) (old new : Content) (line : List ℕ) (answer : Reply) → ScriptStands read sent script old → script.held ≡ line ++ 10 ∷ later.held → list_any is_line_end line ≡ false
+pub stands-more : (read sent : List ℕ) (script later : State) (old new : Content) (line : List ℕ) (answer : Reply) → ScriptIsAfter read sent script old → script.held ≡ line ++ 10 ∷ later.held → list_any is_line_end line ≡ false
     → IsSomeAnd (line_of line) (λ request. IsAnswer (StepAt request.0) old request.1 answer new) → later.owed.items ≡ script.owed.items ++ text answer → later.number ≡ counter_at (script.number + 1)
-    → later.written ≡ script.written → ScriptStands read sent later new
+    → later.written ≡ script.written → ScriptIsAfter read sent later new
 stands-more read sent script later old new line answer s is none serves owes numbered same =
     let next = served-line s.lines line (sent ++ script.owed.items) s.past old new answer s.content s.said serves in
     let out : sent ++ later.owed.items ≡ (sent ++ script.owed.items) ++ text answer = ap (λ o. sent ++ o) owes ∙ sym (append_assoc sent script.owed.items (text answer)) in
@@ -70,8 +70,8 @@ stands-more read sent script later old new line answer s is none serves owes num
     }
 
 -- more is read
-pub stands-with-more : (read sent got : List ℕ) (script later : State) (keyspace : Content) → ScriptStands read sent script keyspace → list_any is_line_end script.held ≡ false → length got ≤ piece → later.held ≡ script.held ++ got
-    → later.owed.items ≡ script.owed.items → later.number ≡ script.number → later.written ≡ script.written → ScriptStands (read ++ got) sent later keyspace
+pub stands-with-more : (read sent got : List ℕ) (script later : State) (keyspace : Content) → ScriptIsAfter read sent script keyspace → list_any is_line_end script.held ≡ false → length got ≤ piece → later.held ≡ script.held ++ got
+    → later.owed.items ≡ script.owed.items → later.number ≡ script.number → later.written ≡ script.written → ScriptIsAfter (read ++ got) sent later keyspace
 stands-with-more read sent got script later keyspace s none small is same numbered counted = record {
   lines = s.lines;
   past = s.past;
@@ -84,8 +84,8 @@ stands-with-more read sent got script later keyspace s none small is same number
 }
 
 -- what is owed is written
-pub stands-paid : (read sent : List ℕ) (script later : State) (keyspace : Content) → ScriptStands read sent script keyspace → IsPaid script later → ScriptStands read (sent ++ script.owed.items) later keyspace
-stands-paid read sent script later keyspace s paid = record {
+pub after-written : (read sent : List ℕ) (script later : State) (keyspace : Content) → ScriptIsAfter read sent script keyspace → IsWritten script later → ScriptIsAfter read (sent ++ script.owed.items) later keyspace
+after-written read sent script later keyspace s paid = record {
   lines = s.lines;
   past = s.past;
   said = subst (λ (o : List ℕ). Script [] s.lines o s.past) (sym (ap (λ o. (sent ++ script.owed.items) ++ o) paid.owed ∙ append-nil (sent ++ script.owed.items))) s.said;
@@ -107,7 +107,7 @@ line-long line long =
     let past : leb (length line) line_limit ≡ false = grind (arith, nat_tests) in
     rw (past) refl
 
-pub all-said : (read sent : List ℕ) (script : State) (keyspace : Content) (s : ScriptStands read sent script keyspace) → IsScript s.lines (sent ++ script.owed.items)
+pub all-said : (read sent : List ℕ) (script : State) (keyspace : Content) (s : ScriptIsAfter read sent script keyspace) → IsScript s.lines (sent ++ script.owed.items)
 all-said read sent script keyspace s = is-script s.lines (sent ++ script.owed.items) s.past s.said
 
 -- the writer fails within the replies to these lines
@@ -130,14 +130,14 @@ replies-broken read sent owed written lines after said are counted count few =
       inr refl,
     )
 
-pub stands-broken : (read sent : List ℕ) (script : State) (keyspace : Content) (end : Result ℕ ScriptFault) → ScriptStands read sent script keyspace
+pub stands-broken : (read sent : List ℕ) (script : State) (keyspace : Content) (end : Result ℕ ScriptFault) → ScriptIsAfter read sent script keyspace
     → (count : ℕ) → count < length script.owed.items → end ≡ Err (fault.Write (counter_at (script.written + count))) → RunsBy writer end read (sent ++ take count script.owed.items)
 stands-broken read sent script keyspace end s count few is =
     subst (λ (e : Result ℕ ScriptFault). RunsBy writer e read (sent ++ take count script.owed.items)) (sym is)
     (replies-broken read sent script.owed.items script.written s.lines (script_lines script.held) (all-said read sent script keyspace s) (read-lines read s.lines script.held s.is_read) s.written count few)
 
 -- the writer fails once a script has ended
-pub ends-broken : (cause : Cause) (end broken : Result ℕ ScriptFault) (read sent : List ℕ) (script : State) → EndsOncePaid cause end read sent script
+pub ends-broken : (cause : Cause) (end broken : Result ℕ ScriptFault) (read sent : List ℕ) (script : State) → EndsOnceWritten cause end read sent script
     → (count : ℕ) → count < length script.owed.items → broken ≡ Err (fault.Write (counter_at (script.written + count))) → RunsBy writer broken read (sent ++ take count script.owed.items)
 ends-broken cause end broken read sent script ends count few is =
     subst (λ (e : Result ℕ ScriptFault). RunsBy writer e read (sent ++ take count script.owed.items)) (sym is) (ends.1 count few)
@@ -181,7 +181,7 @@ module _ (read sent owed : List ℕ) (lines : List (List ℕ)) (written : ℕ) (
   )
 
 -- the last line, which lacks its end, is answered
-pub last-answered : (read sent : List ℕ) (script : State) (old new : Content) (owes : List ℕ) (answer : Reply) (s : ScriptStands read sent script old) → list_any is_line_end script.held ≡ false → 0 < length script.held
+pub last-answered : (read sent : List ℕ) (script : State) (old new : Content) (owes : List ℕ) (answer : Reply) (s : ScriptIsAfter read sent script old) → list_any is_line_end script.held ≡ false → 0 < length script.held
     → IsSomeAnd (line_of script.held) (λ request. IsAnswer (StepAt request.0) old request.1 answer new) → owes ≡ script.owed.items ++ text answer
     → IsScript (s.lines ++ script.held ∷ []) (sent ++ owes) × (script_lines read ≡ s.lines ++ script.held ∷ [])
 last-answered read sent script old new owes answer s none some serves is =
@@ -192,6 +192,6 @@ last-answered read sent script old new owes answer s none some serves is =
     )
 
 -- no line is left
-pub none-left : (read sent : List ℕ) (script : State) (keyspace : Content) (s : ScriptStands read sent script keyspace) → script.held ≡ [] → script_lines read ≡ s.lines
+pub none-left : (read sent : List ℕ) (script : State) (keyspace : Content) (s : ScriptIsAfter read sent script keyspace) → script.held ≡ [] → script_lines read ≡ s.lines
 none-left read sent script keyspace s none =
     read-lines read s.lines script.held s.is_read ∙ ap (λ h. s.lines ++ script_lines h) none ∙ append-nil s.lines

@@ -1,7 +1,7 @@
 -- Why a script is at its end.
 use Rattle.std.specs.Prelude.{◌≡◌, ℕ, ◌+◌, ◌⊎◌, Bool, true, List, Option}
-use Rattle.xs_devices.specs.Passing.{Passing, IsAtEnd}
-use Rattle.xs_devices.specs.Device.{counter_at}
+use Rattle.xs_io.specs.Passing.{Passing, IsAtEnd}
+use Rattle.xs_io.specs.Device.{counter_at}
 
 pub data Cause : Type 0 where
   itself : Cause  -- it ended by itself, or found no memory for more bytes

@@ -5,7 +5,7 @@ use Rattle.xs_resp.specs.declared.reply.Reply.{Reply}
 use Rattle.xs_resp.specs.ReplyText.{text}
 use Rattle.xs_command.specs.declared.command.Command.{Command}
 use Rattle.xs_keys.specs.Event.{Event, History}
-use Rattle.xs_keys.specs.EachReply.{Follows}
+use Rattle.xs_keys.specs.EachReply.{JoinsOrIsLeftOut}
 use Rattle.xs_keys.specs.Headline.{Headline}
 use Rattle.xs_script.specs.Answering.{Answered, IsAnswer}
 use Rattle.xs_script.specs.Line.{is_line_end, line_of}
@@ -15,7 +15,7 @@ abbrev pub Script : History → List (List ℕ) → List ℕ → History → Typ
 Script past [] out last = (out ≡ []) × (last ≡ past)
 Script past (line ∷ lines) out last =
     (answer : Reply) × (next : History) × (more : List ℕ)
-    × IsSomeAnd (line_of line) (λ request. IsAnswer (λ before. Follows before request.0) past request.1 answer next)
+    × IsSomeAnd (line_of line) (λ request. IsAnswer (λ before. JoinsOrIsLeftOut before request.0) past request.1 answer next)
     × (out ≡ text answer ++ more) × Script next lines more last
 
 -- a line that was answered: its moment, the command that its words asked, if they did, and the answer

@@ -1,7 +1,7 @@
 -- A script with no IO of its own, and how it ends.
 use Rattle.std.specs.Prelude.{◌≡◌, ℕ, ◌+◌, ◌<◌, ◌≤◌, true, false, ◌⊎◌, Bool, List, [], ◌∷◌, ◌++◌, length, take}
 use Rattle.std.specs.Prelude.{Option, None, Result, Ok, Err}
-use Rattle.xs_devices.specs.Passing.{Passing, IsAtEnd}
+use Rattle.xs_io.specs.Passing.{Passing, IsAtEnd}
 use Rattle.std.specs.List.{flat_map, list_any}
 use Rattle.xs_keys.specs.Event.{History}
 use Rattle.xs_keys.specs.Content.{Content, IsContent}
@@ -10,7 +10,7 @@ use Rattle.xs_script.specs.declared.state.Turn.{Turn}
 use Rattle.xs_script.specs.declared.state.Turn.TheVariants.{Ends}
 use Rattle.xs_script.specs.declared.fault.ScriptFault.{ScriptFault}
 use Rattle.xs_script.specs.declared.fault.ScriptFault.TheVariants.{Line, Read, Write, Memory}
-use Rattle.xs_devices.specs.Device.{counter_at}
+use Rattle.xs_io.specs.Device.{counter_at}
 use Rattle.xs_script.specs.Line.{is_line_end, script_lines, line_of, line_limit}
 use Rattle.xs_script.specs.Cause.{Cause, itself, input, reader, writer}
 use Rattle.xs_script.specs.Script.{Script, IsScript, with_end, AreLines}
@@ -67,7 +67,7 @@ abbrev pub IsFew : List ℕ → Type 0
 IsFew held = (line rest : List ℕ) → held ≡ line ++ 10 ∷ rest → list_any is_line_end line ≡ false → length rest ≤ piece
 
 -- these lines are read and answered; some of the replies are written, and the others are owed
-pub record ScriptStands (read sent : List ℕ) (script : State) (keyspace : Content) : Type 0 where
+pub record ScriptIsAfter (read sent : List ℕ) (script : State) (keyspace : Content) : Type 0 where
   pub lines : List (List ℕ)
   pub past : History
   pub said : Script [] lines (sent ++ script.owed.items) past
@@ -107,14 +107,14 @@ AfterTurn (Ends end) Stands HasEnded = HasEnded end
 AfterTurn _ Stands HasEnded = Stands
 
 -- a script ends so once all that it owes is written; or as one whose writer failed, where a part of that was written
-abbrev pub EndsOncePaid : Cause → Result ℕ ScriptFault → List ℕ → List ℕ → State → Type 0
-EndsOncePaid cause end read sent script =
+abbrev pub EndsOnceWritten : Cause → Result ℕ ScriptFault → List ℕ → List ℕ → State → Type 0
+EndsOnceWritten cause end read sent script =
     RunsBy cause end read (sent ++ script.owed.items)
     × ((count : ℕ) → count < length script.owed.items
     → RunsBy writer (Err (Write (counter_at (script.written + count)))) read (sent ++ take count script.owed.items))
 
 -- all that was owed is written
-pub record IsPaid (old new : State) : Type 0 where
+pub record IsWritten (old new : State) : Type 0 where
   pub held : new.held ≡ old.held
   pub owed : new.owed.items ≡ []
   pub number : new.number ≡ old.number

@@ -1,35 +1,35 @@
 //! A script over a reader and a writer.
 ghost use Rattle.std.specs.Prelude.{◌≡◌, ◌+◌, ◌*◌, ◌<◌, ◌≤◌, ◌⊎◌, ◌++◌, [], Bool, ℕ, List, true, Err, length, take};
 ghost use Rattle.std.specs.Prelude.{OnOk, OnErr, IfErr, MatchResult};
-ghost use Rattle.xs_devices.specs.Passing.{Appends, Consumes};
-ghost use Rattle.xs_devices.specs.Device.{counter_at};
+ghost use Rattle.xs_io.specs.Passing.{Appends, Consumes};
+ghost use Rattle.xs_io.specs.Device.{counter_at};
 ghost use Rattle.xs_keys.specs.Content.{Content};
 ghost use Rattle.xs_script.specs.Cause.{Cause, HasCause, reads_limit, writer as writer_failed};
-ghost use Rattle.xs_script.specs.ScriptRun.{Runs, RunsBy, ScriptStands, EndsOncePaid, IsPaid, cause_of_script};
+ghost use Rattle.xs_script.specs.ScriptRun.{Runs, RunsBy, ScriptIsAfter, EndsOnceWritten, IsWritten, cause_of_script};
 
 use crate::fault::ScriptFault;
 use crate::state::{Script, Turn};
 use std::alloc::Global;
-use xs_devices::{Fill, FillFault, Sink, Source, write_all};
+use xs_io::{Fill, FillFault, Sink, Source, write_all};
 use xs_keys::Keyspace;
 
 /// How often a reader is asked.
 const READS: u64 = 1_000_000_000_000;
 
 /// Replies are held up to so many bytes.
-const ENOUGH: usize = 65_536;
+const WRITE_BYTES: usize = 65_536;
 
 /// Takes the script's next turn, and reads on if it waits. The script's end is the error.
-fn come<R: Source>(
+fn take_turn<R: Source>(
     reader: &mut R,
     left: &mut u64,
     script: &mut Script,
     keyspace: &mut Keyspace,
 ) -> Result<(), Result<u64, ScriptFault>>
-    ensures comes { (read sent : List ℕ) → ScriptStands read sent script.old keyspace.old →
+    ensures turn { (read sent : List ℕ) → ScriptIsAfter read sent script.old keyspace.old →
         (got : List ℕ) × Consumes (R.rest reader.old) (R.rest reader.new) got
-        × MatchResult result (λ _. ScriptStands (read ++ got) sent script.new keyspace.new)
-        (λ end. (cause : Cause) × EndsOncePaid cause end (read ++ got) sent script.new
+        × MatchResult result (λ _. ScriptIsAfter (read ++ got) sent script.new keyspace.new)
+        (λ end. (cause : Cause) × EndsOnceWritten cause end (read ++ got) sent script.new
         × ((before : ℕ) (broken : Bool) → counter_at (R.calls reader.old + left.old) ≡ counter_at (before + reads_limit)
         → HasCause cause (R.rest reader.new) (R.ended reader.new) (R.broken reader.new)
         before (R.calls reader.new) broken)) }
@@ -63,7 +63,7 @@ fn come<R: Source>(
 /// Writes what the script owes. Its end is the error.
 fn send<W: Sink>(writer: &mut W, script: &mut Script) -> Result<(), Result<u64, ScriptFault>>
     ensures sent { OnOk result (Appends (W.held writer.old) (W.held writer.new) script.old.owed.items) }
-    ensures paid { OnOk result (IsPaid script.old script.new) }
+    ensures paid { OnOk result (IsWritten script.old script.new) }
     ensures err { IfErr result (λ end. (count : ℕ) × (count < length script.old.owed.items)
         × Appends (W.held writer.old) (W.held writer.new) (take count script.old.owed.items)
         × (end ≡ Err (ScriptFault.Write (counter_at (script.old.written + count))))) }
@@ -71,7 +71,7 @@ fn send<W: Sink>(writer: &mut W, script: &mut Script) -> Result<(), Result<u64, 
 {
     match write_all(writer, script.owed.as_slice()) {
         Ok(_) => {
-            script.mark_paid();
+            script.mark_written();
             Ok(())
         }
         Err(count) => Err(script.write_error(count)),
@@ -80,16 +80,16 @@ fn send<W: Sink>(writer: &mut W, script: &mut Script) -> Result<(), Result<u64, 
 
 /// Writes what the script owes, if that is enough. Its end is the error.
 fn send_on<W: Sink>(writer: &mut W, script: &mut Script) -> Result<(), Result<u64, ScriptFault>>
-    ensures sends { (keyspace : Content) (read sent : List ℕ) → ScriptStands read sent script.old keyspace →
+    ensures sends { (keyspace : Content) (read sent : List ℕ) → ScriptIsAfter read sent script.old keyspace →
         (more : List ℕ) × Appends (W.held writer.old) (W.held writer.new) more
-        × MatchResult result (λ _. ScriptStands read (sent ++ more) script.new keyspace)
+        × MatchResult result (λ _. ScriptIsAfter read (sent ++ more) script.new keyspace)
         (λ end. RunsBy writer_failed end read (sent ++ more)) }
     ensures few { OnOk result ((length script.new.owed.items < 65536) × ((writer.new ≡ writer.old)
         ⊎ ((more : List ℕ) × Appends (W.held writer.old) (W.held writer.new) more × (65536 ≤ length more)))) }
     ensures held { OnOk result (script.new.held ≡ script.old.held) }
     ensures cause { OnErr result (W.broken writer.new ≡ true) }
 {
-    if script.owed.len() < ENOUGH {
+    if script.owed.len() < WRITE_BYTES {
         return Ok(());
     }
     match send(writer, script) {
@@ -104,7 +104,7 @@ fn send_last<W: Sink>(
     script: &mut Script,
     end: Result<u64, ScriptFault>,
 ) -> Result<u64, ScriptFault>
-    ensures { (cause : Cause) (read sent : List ℕ) → EndsOncePaid cause end read sent script.old →
+    ensures { (cause : Cause) (read sent : List ℕ) → EndsOnceWritten cause end read sent script.old →
         (more : List ℕ) × Appends (W.held writer.old) (W.held writer.new) more
         × ((RunsBy cause result read (sent ++ more))
         ⊎ (RunsBy writer_failed result read (sent ++ more) × (W.broken writer.new ≡ true))) }
@@ -123,7 +123,7 @@ fn drive<R: Source, W: Sink>(
     script: &mut Script,
     keyspace: &mut Keyspace,
 ) -> Result<u64, ScriptFault>
-    requires { ScriptStands [] [] script.old keyspace.old }
+    requires { ScriptIsAfter [] [] script.old keyspace.old }
     ensures ends { (read sent : List ℕ) × (cause : Cause)
         × Consumes (R.rest reader.old) (R.rest reader.new) read × Appends (W.held writer.old) (W.held writer.new) sent
         × RunsBy cause result read sent
@@ -133,7 +133,7 @@ fn drive<R: Source, W: Sink>(
 {
     let mut left = READS;
     'turns: loop {
-        match come(reader, &mut left, script, keyspace) {
+        match take_turn(reader, &mut left, script, keyspace) {
             Ok(()) => {}
             Err(end) => return send_last(writer, script, end),
         }

@@ -1,8 +1,8 @@
 //! A script, with no IO of its own: each of its turns answers a line.
 ghost use Rattle.std.specs.Prelude.{◌≡◌, ◌+◌, ◌<◌, ◌≤◌, ℕ, List, length, Err};
-ghost use Rattle.xs_devices.specs.Device.{counter_at};
+ghost use Rattle.xs_io.specs.Device.{counter_at};
 ghost use Rattle.xs_script.specs.Cause.{itself, input};
-ghost use Rattle.xs_script.specs.ScriptRun.{IsNewScript, IsWaiting, IsPaid, ScriptStands, AfterTurn, EndsOncePaid};
+ghost use Rattle.xs_script.specs.ScriptRun.{IsNewScript, IsWaiting, IsWritten, ScriptIsAfter, AfterTurn, EndsOnceWritten};
 
 use crate::fault::ScriptFault;
 use crate::lines::held::HeldBytes;
@@ -97,9 +97,9 @@ impl Script {
 
     /// Takes the next turn: a line is answered, if one is whole.
     pub fn advance(&mut self, keyspace: &mut Keyspace) -> Turn
-        ensures turns { (read sent : List ℕ) → ScriptStands read sent self.old keyspace.old →
-            AfterTurn result (ScriptStands read sent self.new keyspace.new)
-            (λ end. EndsOncePaid itself end read sent self.new) }
+        ensures turns { (read sent : List ℕ) → ScriptIsAfter read sent self.old keyspace.old →
+            AfterTurn result (ScriptIsAfter read sent self.new keyspace.new)
+            (λ end. EndsOnceWritten itself end read sent self.new) }
         ensures waits { result ≡ Turn.Waits → IsWaiting self.new.held }
         ensures less { result ≡ Turn.Goes → length self.new.held < length self.old.held }
         ensures same { length self.new.held ≤ length self.old.held }
@@ -127,8 +127,8 @@ impl Script {
     /// Ends, since the input has ended: the last line may lack its end.
     pub fn end(&mut self, keyspace: &mut Keyspace) -> Result<u64, ScriptFault>
         requires { IsWaiting self.old.held }
-        ensures { (read sent : List ℕ) → ScriptStands read sent self.old keyspace.old →
-            EndsOncePaid input result read sent self.new }
+        ensures { (read sent : List ℕ) → ScriptIsAfter read sent self.old keyspace.old →
+            EndsOnceWritten input result read sent self.new }
     {
         let line = self.held.bytes();
         if line.is_empty() {
@@ -142,8 +142,8 @@ impl Script {
     }
 
     /// Says that all that it owed was written.
-    pub fn mark_paid(&mut self)
-        ensures { IsPaid self.old self.new }
+    pub fn mark_written(&mut self)
+        ensures { IsWritten self.old self.new }
     {
         self.written = self.total();
         self.owed.clear();

@@ -1,8 +1,8 @@
 -- Texts that a writer takes one after the other, and what is said of work.
 use Rattle.std.proofs.Common.{◌≡◌, ◌⊎◌, inl, inr, refl, Bool, true, false, ℕ, List, ◌++◌, Option, sym, ap, ◌∙◌, append_assoc}
 use Rattle.std.proofs.Common.{Result, Ok, Err, IfOk}
-use Rattle.xs_devices.specs.Passing.{Passing, Appends}
-use Rattle.xs_devices.proofs.Passing.{Appends-trans}
+use Rattle.xs_io.specs.Passing.{Passing, Appends}
+use Rattle.xs_io.proofs.Passing.{Appends-trans}
 use Rattle.xs_desk.specs.declared.opening.DeskError.TheVariants as desk
 use Rattle.xs_work.specs.declared.fault.WorkFault.{WorkFault}
 use Rattle.xs_work.specs.declared.fault.WorkFault.TheVariants as work

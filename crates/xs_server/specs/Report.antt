@@ -1,6 +1,6 @@
 -- What the program says at its end.
 use Rattle.std.specs.Prelude.{◌≡◌, ℕ, ◌⊎◌, Bool, true, List, [], ◌++◌, codes, decimal, Option, Result, Ok, Err}
-use Rattle.xs_devices.specs.Passing.{Passing}
+use Rattle.xs_io.specs.Passing.{Passing}
 use Rattle.xs_work.specs.Texts.{Says}
 use Rattle.xs_script.specs.declared.fault.ScriptFault.{ScriptFault}
 use Rattle.xs_script.specs.declared.fault.ScriptFault.TheVariants.{Line, Read, Write, Memory}

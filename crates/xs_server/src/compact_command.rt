@@ -8,9 +8,9 @@ use std::alloc::{AllocError, Global};
 use std::sync::{Arc, Wait};
 use std::thread::Threads;
 use std::time::Clock;
-use xs_devices::{Sink, write_all};
 use xs_files::listing::list;
 use xs_files::{Compaction, Compactor, Progress, compact_folder};
+use xs_io::{Sink, write_all};
 
 /// The line that says what became of a compaction.
 fn done_line(alloc: Global, folder: &str, done: Option<Compaction>) -> Result<String, AllocError> {

@@ -5,8 +5,8 @@ use std::sync::Wait;
 use std::thread;
 use std::thread::Threads;
 use std::time::{Clock, Duration};
-use xs_devices::{Sink, write_all};
 use xs_files::{Compaction, Compactor, FolderFault};
+use xs_io::{Sink, write_all};
 
 /// How often a folder is looked at.
 const SECONDS: u64 = 1;

@@ -6,8 +6,8 @@ use std::sync::{Arc, Wait};
 use std::thread;
 use std::thread::Threads;
 use std::time::{Clock, Duration};
-use xs_devices::{Sink, ToWrite, write_all};
 use xs_files::{Compactor, Progress, Syncer};
+use xs_io::{Sink, ToWrite, write_all};
 
 /// How often the first two come back.
 const SECONDS: u64 = 1;

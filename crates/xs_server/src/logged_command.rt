@@ -18,11 +18,11 @@ use std::thread::Threads;
 use std::time::Clock;
 use xs_clock::WallClock;
 use xs_connection::Password;
-use xs_devices::{Sink, write_all};
 use xs_files::{
     CompactPolicy, CompactionState, Compactor, FileTape, FolderFault, OpenedFolder, Progress,
     SyncPolicy, lock_folder, open_folder,
 };
+use xs_io::{Sink, write_all};
 use xs_keys::Keyspace;
 use xs_log::TapeLog;
 use xs_replay::EventLog;

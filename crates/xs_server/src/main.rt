@@ -27,7 +27,7 @@ use run_command::run_server;
 use script_command::run_and_report;
 use serve_command::serve_and_report;
 use std::process::ExitCode;
-use xs_devices::{FromRead, ToWrite};
+use xs_io::{FromRead, ToWrite};
 
 fn main(rt: HostRuntime) -> ExitCode {
     let mut errors = ToWrite::new(rt.stderr());

@@ -10,7 +10,7 @@ use std::io::{self, ErrorKind};
 use std::os::unix::fs::PermissionsExt;
 use thiserror::Error;
 use xs_connection::Password;
-use xs_devices::Sink;
+use xs_io::Sink;
 use xs_work::say;
 
 /// The permissions of a file by which others than its owner read it.

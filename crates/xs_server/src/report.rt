@@ -7,7 +7,7 @@ ghost use Rattle.xs_work.specs.Texts.{Says};
 
 use itoa::Buffer;
 use xs_desk::DeskError;
-use xs_devices::Sink;
+use xs_io::Sink;
 use xs_script::ScriptFault;
 use xs_work::{WorkFailed, WorkFault, WorkOutcome, say};
 

@@ -17,7 +17,7 @@ use std::thread::Threads;
 use std::time::{Clock, Duration};
 use xs_clock::WallClock;
 use xs_connection::Password;
-use xs_devices::Sink;
+use xs_io::Sink;
 use xs_tcp::announcement::Announcement;
 use xs_tcp::door::open_door;
 use xs_tcp::hall::Hall;

@@ -1,6 +1,6 @@
 //! The program's command `script`.
 ghost use Rattle.std.specs.Prelude.{◌≡◌, ℕ, List, Result};
-ghost use Rattle.xs_devices.specs.Passing.{Appends, Consumes};
+ghost use Rattle.xs_io.specs.Passing.{Appends, Consumes};
 ghost use Rattle.xs_script.specs.declared.fault.ScriptFault.{ScriptFault as Fault};
 ghost use Rattle.xs_server.specs.Report.{status_of_run, text_of_run};
 ghost use Rattle.xs_work.specs.Texts.{Says};
@@ -8,7 +8,7 @@ ghost use Rattle.xs_script.specs.ScriptRun.{Runs};
 
 use crate::report::report_script;
 use std::alloc::Global;
-use xs_devices::{Sink, Source};
+use xs_io::{Sink, Source};
 use xs_script::run_script;
 
 /// Runs a script, says on the writer of errors why it ended before its end, and gives the status of the program.

@@ -15,7 +15,7 @@ use std::sync::{Arc, Wait};
 use std::thread::Threads;
 use std::time::Clock;
 use xs_clock::WallClock;
-use xs_devices::{Sink, ToWrite};
+use xs_io::{Sink, ToWrite};
 use xs_tcp::announcement::Announcement;
 use xs_tcp::serve_gate::TcpGate;
 use xs_work::{Gate, work};

@@ -2,7 +2,7 @@
 use crate::tests::fakes::{Pieces, Sips};
 use std::alloc::{AllocError, Global};
 use std::test::Fail;
-use xs_devices::{FromRead, ToWrite};
+use xs_io::{FromRead, ToWrite};
 use xs_script::{ScriptFault, run_script};
 
 /// A reader that gives a byte at a time.

@@ -2,8 +2,8 @@
 use Rattle.std.proofs.Common.{◌≡◌, ℕ, ◌<◌, ◌==◌, Bool, true, false, List, [], ◌∷◌, ◌++◌, length, Result, Ok, Err}
 use Rattle.std.proofs.Common.{sym, ◌∙◌, refl, arith}
 use Rattle.std.specs.Prelude.{IfOk}
-use Rattle.xs_devices.specs.Passing.{Passing}
-use Rattle.xs_devices.specs.Device.{Gave}
+use Rattle.xs_io.specs.Passing.{Passing}
+use Rattle.xs_io.specs.Device.{Gave}
 
 pub empty-none : {A : Type 0} (items : List A) (empty : Bool) → empty ≡ (length items == 0) → empty ≡ true → items ≡ []
 empty-none [] empty is h = refl

@@ -62,7 +62,7 @@ pub(crate) fn asks_keys(standing: &Standing, words: &Words<'_>) -> bool
 }
 
 /// The most bytes of the line of the keyspace, and some more.
-const ROOM: usize = 64;
+const KEYSPACE_LINE_BYTES: usize = 64;
 
 /// What INFO tells before the line of the keyspace, with room for that line. A contract sees the text.
 #[derive(Drop)]
@@ -86,7 +86,7 @@ impl Information {
     pub fn new(alloc: Global, told: &[u8]) -> Result<Self, AllocError>
         ensures { IfOk result (λ information. information ≡ told.now) }
     {
-        let mut text = Vec::with_capacity(alloc, told.len().saturating_add(ROOM))?;
+        let mut text = Vec::with_capacity(alloc, told.len().saturating_add(KEYSPACE_LINE_BYTES))?;
         text.extend_from_slice(told)?;
         Ok(Self { text })
     }

@@ -1,9 +1,9 @@
 //! The session of a connection.
 ghost use Rattle.std.specs.Prelude.{◌≡◌, ◌≢◌, ◌+◌, ◌<◌, ◌≤◌, ◌++◌, ◌∷◌, ◌⊎◌, List, ℕ, [], Ok, Err, Some, None};
 ghost use Rattle.std.specs.Prelude.{true, false, length, is_some, if◌then◌else◌, IfOk, OnErr};
-ghost use Rattle.xs_devices.specs.Passing.{Keeps};
-ghost use Rattle.xs_devices.specs.Device.{counter_at, Gave};
-ghost use Rattle.xs_devices.specs.declared.fill.FillFault.{FillFault};
+ghost use Rattle.xs_io.specs.Passing.{Keeps};
+ghost use Rattle.xs_io.specs.Device.{counter_at, Gave};
+ghost use Rattle.xs_io.specs.declared.fill.FillFault.{FillFault};
 ghost use Rattle.xs_resp.specs.declared.reply.Reply.{Reply};
 ghost use Rattle.xs_resp.specs.HeldBytes.{HasNext, Skips, front_of, holds_bytes, with_piece};
 ghost use Rattle.xs_resp.specs.ReplyText.{text};
@@ -39,7 +39,7 @@ use xs_bytes::U63;
 use xs_command::Command;
 use xs_connection::{Inform, Standing};
 use xs_desk::Call;
-use xs_devices::{Fill, FillFault, Source};
+use xs_io::{Fill, FillFault, Source};
 use xs_resp::{Encoder, Fault, Reply, Request, Requests};
 
 /// What a turn of a session comes to.
@@ -59,7 +59,7 @@ pub enum Turn {
 }
 
 /// How many bytes of requests are held without more memory: those of one read, and twice a request of 16 KiB.
-const ROOM: usize = 131_072;
+const REQUEST_BYTES: usize = 131_072;
 
 /// How often a session waits for a piece of its reserve, at most, before it takes requests without any.
 const MOST_WAITS: u32 = 20;
@@ -166,7 +166,7 @@ fn waits_for_memory(
 }
 
 impl Session {
-    ghost use Rattle.xs_devices.specs.declared.fill.FillFault.{FillFault};
+    ghost use Rattle.xs_io.specs.declared.fill.FillFault.{FillFault};
     ghost use Rattle.xs_session.specs.declared.ending.Ending.{Ending};
 
     /// A session before its first byte, with all the memory that small requests need. Its connection has this number.
@@ -177,7 +177,7 @@ impl Session {
             alloc,
             reserve: Reserve::new(alloc)?,
             standing: first_standing(alloc, manner, id),
-            requests: Requests::with_capacity(alloc, ROOM)?,
+            requests: Requests::with_capacity(alloc, REQUEST_BYTES)?,
             places: Places::new(alloc)?,
             owed: Encoder::new(alloc)?,
             ended: None,

@@ -1,7 +1,7 @@
 -- The pieces that were read of a snapshot are its first.
 use Rattle.std.proofs.Common.{◌≡◌, ℕ, List, [], ◌∷◌, ◌++◌, map, length, Option, Some, refl, sym, ap, ◌∙◌, subst, append-nil}
 use Rattle.std.specs.List.{AllByRecursion}
-use Rattle.xs_devices.specs.Passing.{Passing}
+use Rattle.xs_io.specs.Passing.{Passing}
 use Rattle.xs_replay.specs.Pieces.{Piece}
 use Rattle.xs_replay.specs.SnapshotWords.{Fits}
 use Rattle.xs_replay.specs.Snapshot.{piece_record}

@@ -1,6 +1,6 @@
 //! A keyspace is read from a snapshot.
 ghost use Rattle.std.specs.Prelude.{◌≡◌, ◌++◌, ◌∷◌, [], ℕ, List, Some, true, IfOk, IfErr, OnOk};
-ghost use Rattle.xs_devices.specs.Passing.{known_by};
+ghost use Rattle.xs_io.specs.Passing.{known_by};
 ghost use Rattle.xs_replay.specs.After.{ServerState};
 ghost use Rattle.xs_replay.specs.Pieces.{pieces_of};
 ghost use Rattle.xs_replay.specs.Snapshot.{IsSnapshotFile};
@@ -12,7 +12,7 @@ ghost use Rattle.xs_snapshot.specs.Restorable.{IsRestorable};
 
 use crate::keyspace_builder::KeyspaceBuilder;
 use std::alloc::{AllocError, Global};
-use xs_devices::Source;
+use xs_io::Source;
 use xs_keys::Keyspace;
 use xs_log::{Piece, SnapshotFault, SnapshotReader};
 use xs_stream::Moment;

@@ -28,7 +28,7 @@ use std::marker::Model;
 const MOST_ENTRIES: usize = 128;
 
 /// How many bytes a block of many small entries has room for.
-const ROOM: usize = 2560;
+const BLOCK_BYTES: usize = 2560;
 
 /// How many bytes aren't worth giving back. The C library keeps pieces so small apart, and joins each with its
 /// neighbours when a stream goes.
@@ -87,7 +87,7 @@ impl Block {
         ensures { result.entries ≡ [] }
     {
         let mut bytes = Vec::new(alloc);
-        let _ = bytes.reserve_exact(ROOM);
+        let _ = bytes.reserve_exact(BLOCK_BYTES);
         Self {
             base: 0,
             count: 0,
@@ -205,7 +205,7 @@ impl Block {
     /// Whether less than a quarter of a block of small entries is left, and less than half of its memory is taken.
     pub(crate) fn is_sparse(&self) -> bool {
         let len = self.bytes.len();
-        len < ROOM / 4 && len < self.bytes.capacity() / 2
+        len < BLOCK_BYTES / 4 && len < self.bytes.capacity() / 2
     }
 
     /// Whether the entries of another block fit into the memory that it has, and belong there by their number.
@@ -490,7 +490,7 @@ fn room_beside(count: usize) -> usize {
     if count < 16 {
         return 4096;
     }
-    ROOM
+    BLOCK_BYTES
 }
 
 /// Whether fields have the names that bytes begin with.

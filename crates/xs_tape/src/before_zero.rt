@@ -2,11 +2,11 @@
 ghost use Rattle.std.specs.Prelude.{◌≡◌, ◌++◌, ◌∷◌, ◌<◌, ◌≤◌, false, length, take, drop, MatchOption};
 ghost use Rattle.std.specs.Option.{option_map};
 ghost use Rattle.xs_tape.specs.Crash.{HasNoZero, before_zero};
-ghost use Rattle.xs_devices.specs.Passing.{at_first};
+ghost use Rattle.xs_io.specs.Passing.{at_first};
 ghost use Rattle.xs_tape.specs.BeforeZero.{rest_before};
 
 use memchr::memchr;
-use xs_devices::{Failed, Source};
+use xs_io::{Failed, Source};
 use xs_trace::Trace;
 
 /// Gives the bytes of a reader up to the first zero.

@@ -4,7 +4,7 @@ use std::alloc::{AllocError, Global};
 use std::sync::{Arc, Wait};
 use std::thread;
 use std::thread::{Parker, Threads};
-use xs_devices::{Sink, write_all};
+use xs_io::{Sink, write_all};
 
 /// Tells the thread that it is time.
 #[derive(Drop)]

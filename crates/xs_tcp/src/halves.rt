@@ -14,12 +14,12 @@ use std::io::{ErrorKind, Read, Write};
 use std::net::TcpStream;
 use std::sync::{Arc, Mutex, Wait};
 use std::time::{Clock, Duration};
-use xs_devices::{FromRead, Sink, Source, ToWrite};
+use xs_io::{FromRead, Sink, Source, ToWrite};
 
 /// How many bytes are read while a call waits, and how many at once.
 const AHEAD: usize = 1_048_576;
 
-const PIECE: usize = 4096;
+const LOOK_BYTES: usize = 4096;
 
 /// How many seconds a client has to give the password.
 const SECONDS_FOR_PASSWORD: u64 = 10;
@@ -175,9 +175,9 @@ fn has_failed(stream: &TcpStream) -> bool {
 /// Reads what has come, up to AHEAD bytes in all, from a stream that doesn't wait. It says whether the stream has
 /// ended.
 fn read_ahead(mut stream: &TcpStream, ahead: &mut Vec<u8>) -> bool {
-    let mut piece = [0u8; PIECE];
-    for _ in 0..AHEAD / PIECE {
-        if ahead.len() >= AHEAD || ahead.reserve(PIECE).is_err() {
+    let mut piece = [0u8; LOOK_BYTES];
+    for _ in 0..AHEAD / LOOK_BYTES {
+        if ahead.len() >= AHEAD || ahead.reserve(LOOK_BYTES).is_err() {
             return has_failed(stream);
         }
         match stream.read(&mut piece) {

@@ -12,7 +12,7 @@ use std::net::TcpStream;
 use std::sync::{Arc, Wait};
 use std::time::{Clock, Duration};
 use xs_connection::Password;
-use xs_devices::{FromRead, Sink, Source, ToWrite};
+use xs_io::{FromRead, Sink, Source, ToWrite};
 use xs_session::Manner;
 use xs_work::{Gate, GateFault, Register};
 

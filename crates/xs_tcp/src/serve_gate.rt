@@ -11,7 +11,7 @@ use std::net::{TcpListener, TcpStream};
 use std::sync::{Arc, Wait};
 use std::thread;
 use std::time::{Clock, Duration};
-use xs_devices::{FromRead, Sink, Source, ToWrite};
+use xs_io::{FromRead, Sink, Source, ToWrite};
 use xs_session::Manner;
 use xs_work::{Gate, GateFault, Register};
 

@@ -1,6 +1,6 @@
 //! A desk with all its clients, in one hand.
 ghost use Rattle.std.specs.Prelude.{◌≡◌, List, [], ◌∷◌, ◌++◌, IfOk, IfSome};
-ghost use Rattle.xs_desk.specs.Callers.{Caller, AreEnds};
+ghost use Rattle.xs_desk.specs.Callers.{Caller, AreEndsOfLanes};
 
 use crate::together::{Job, run_jobs};
 use std::alloc::{AllocError, Global};
@@ -26,11 +26,11 @@ impl Model for Trial {
 
     ghost Value = { ℕ };
 
-    ghost use Rattle.xs_desk.specs.Callers.{Caller, AreEnds};
+    ghost use Rattle.xs_desk.specs.Callers.{Caller, AreEndsOfLanes};
 
     ghost view = { λ t. length t.clients.items };
 
-    ghost invariant = { λ t. AreEnds t.keeper.lanes t.clients.items };
+    ghost invariant = { λ t. AreEndsOfLanes t.keeper.lanes t.clients.items };
 }
 
 /// Room for so many, asked for once more where memory was refused.
@@ -77,7 +77,7 @@ fn with_end(ended: Vec<Ended>, client: Client) -> Option<Vec<Ended>>
 
 /// Tries to close a desk, an end of which is missing.
 fn refused(alloc: Global, keeper: Keeper, ended: Vec<Ended>) -> Option<(Keeper, Vec<Ended>)>
-    requires { AreEnds keeper.lanes ended.items }
+    requires { AreEndsOfLanes keeper.lanes ended.items }
     ensures { IfSome result (λ r. (r.0 ≡ keeper) × (r.1.items ≡ ended.items)) }
 {
     match close(alloc, keeper, ended) {

@@ -3,7 +3,7 @@ use Rattle.std.proofs.Common.{◌≡◌, ◌⊎◌, inl, inr, ℕ, ◌<◌, ◌�
 use Rattle.std.specs.Prelude.{IfErr, MatchResult}
 use Rattle.std.proofs.Common.{append_assoc, arith, take, drop, length-drop, length-append}
 use Rattle.std.proofs.lemmas.List.{append-nil, take-append-drop}
-use Rattle.xs_devices.specs.Passing.{Passing}
+use Rattle.xs_io.specs.Passing.{Passing}
 use Rattle.xs_resp.specs.declared.reply.Reply.{Reply}
 use Rattle.xs_resp.specs.Grammar.{IsOpen}
 use Rattle.xs_resp.specs.HeldBytes.{Held, holds_bytes}

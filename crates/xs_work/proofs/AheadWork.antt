@@ -2,8 +2,8 @@
 use Rattle.std.proofs.Common.{◌≡◌, ◌≢◌, inl, inr, Bool, true, false, List, [], ◌∷◌, ◌++◌, Result, Ok, Err, not, sym, ap, ◌∙◌, subst, refl}
 use Rattle.std.proofs.Common.{append_assoc, arith, length, length-append, ℕ, Option, None}
 use Rattle.std.proofs.lemmas.List.{append-nil}
-use Rattle.xs_devices.specs.Passing.{Passing, Appends, Consumes}
-use Rattle.xs_devices.proofs.Passing.{Appends-trans}
+use Rattle.xs_io.specs.Passing.{Passing, Appends, Consumes}
+use Rattle.xs_io.proofs.Passing.{Appends-trans}
 use Rattle.xs_resp.specs.declared.header.Part.TheVariants.{Count}
 use Rattle.xs_resp.specs.declared.read_fault.ProtocolFault.{ProtocolFault}
 use Rattle.xs_resp.specs.declared.read_fault.ProtocolFault.TheVariants as protocol

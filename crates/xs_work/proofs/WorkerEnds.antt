@@ -6,7 +6,7 @@ use Rattle.std.proofs.lemmas.List.{append-nil, length-map, map-append}
 use Rattle.xs_bytes.specs.SortedMap.{empty}
 use Rattle.xs_keys.specs.Headline.{RunsOn}
 use Rattle.xs_desk.specs.declared.summary.Summary.{Summary}
-use Rattle.xs_desk.specs.Callers.{Caller, AreEnds, HasEnd}
+use Rattle.xs_desk.specs.Callers.{Caller, AreEndsOfLanes, HasEndOfLane}
 use Rattle.xs_desk.specs.Closing.{SumUp}
 use Rattle.xs_desk.specs.History.{LaneOf, ServedCall, Desk, IsHistory, events_of, replies_of}
 use Rattle.xs_desk.specs.KeptRings.{KeepsSide, KeepSides}
@@ -53,7 +53,7 @@ new-count k depth (lane ∷ lanes) (first ∷ clients) new = omega (arith, new-c
 
 -- an end for each client of a new desk is an end for each of its lanes
 pub all-there : (depth : ℕ) (lanes : List LaneOf) (clients ends : List Caller) → AreNew 0 depth lanes clients → KeepSides clients ends → length ends ≡ length clients
-    → (k : ℕ) → k < length lanes → HasEnd ends k
+    → (k : ℕ) → k < length lanes → HasEndOfLane ends k
 all-there depth lanes clients ends new sides count k below =
     let there = some-at ends k (omega (arith, count, new-count 0 depth lanes clients new)) in
     let side = sides k there.0 there.1 in
@@ -168,7 +168,7 @@ served-pool client_of gate_of trace faulty depth lanes clients ends gates later 
     (subst (λ (firsts : List Caller). WorkEach faulty firsts ends (map trace gates) (map trace later)) cs over)
 
 -- a desk whose workers did this was closed
-pub closed-desk : (faulty : Bool) (desk : Desk) (ends : List Caller) (before now : List GateTrace) (summary : Summary) → AreEnds desk.lanes ends → SumUp desk.lanes ends (length desk.lanes) summary.lanes.items
+pub closed-desk : (faulty : Bool) (desk : Desk) (ends : List Caller) (before now : List GateTrace) (summary : Summary) → AreEndsOfLanes desk.lanes ends → SumUp desk.lanes ends (length desk.lanes) summary.lanes.items
     → ((history : List ServedCall) × IsHistory history desk × RunsOn empty (events_of history) (replies_of history) summary.keyspace) → length desk.lanes ≡ length before → AreServed faulty ends before now
     → IsClosed faulty before now summary
 closed-desk faulty desk ends before now summary are lanes history count served = record {

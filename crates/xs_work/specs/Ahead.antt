@@ -3,7 +3,7 @@ use Rattle.std.specs.Prelude.{◌≡◌, ◌≢◌, ℕ, ◌<◌, ◌≤◌, Boo
 use Rattle.std.specs.Prelude.{Option, Some, None, Result, Ok, Err}
 use Rattle.xs_resp.specs.declared.reply.Reply.{Reply}
 use Rattle.xs_resp.specs.Grammar.{IsOpen}
-use Rattle.xs_devices.specs.Passing.{Passing, IsAtEnd}
+use Rattle.xs_io.specs.Passing.{Passing, IsAtEnd}
 use Rattle.xs_resp.specs.HeldBytes.{Held}
 use Rattle.xs_resp.specs.LeftToWrite.{bytes_left}
 use Rattle.xs_command.specs.declared.command.Command.{Command}

@@ -1,6 +1,6 @@
 -- The connections of a gate: those that it gave, and those that came back.
 use Rattle.std.specs.Prelude.{◌≡◌, ℕ, Bool, true, false, List, [], ◌∷◌, ◌++◌, map, Option}
-use Rattle.xs_devices.specs.Passing.{Passing}
+use Rattle.xs_io.specs.Passing.{Passing}
 use Rattle.xs_session.specs.declared.manner.Manner.{Manner}
 
 -- a connection: the bytes that have passed through its reader and its writer, and those that are left or held, where

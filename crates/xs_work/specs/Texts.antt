@@ -1,6 +1,6 @@
 -- What a writer takes of a text.
 use Rattle.std.specs.Prelude.{◌≡◌, ℕ, ◌⊎◌, Bool, true, List, [], ◌++◌}
-use Rattle.xs_devices.specs.Passing.{Passing, Appends}
+use Rattle.xs_io.specs.Passing.{Passing, Appends}
 
 -- a writer takes this text, or a part of it if it fails
 abbrev pub Says : List ℕ → Passing → Passing → Bool → Type 0

@@ -4,7 +4,7 @@ use Rattle.xs_bytes.specs.SortedMap.{empty}
 use Rattle.xs_keys.specs.Headline.{RunsOn}
 use Rattle.xs_desk.specs.declared.summary.Summary.{Summary}
 use Rattle.xs_desk.specs.History.{ServedCall, Desk, IsHistory, events_of, replies_of}
-use Rattle.xs_desk.specs.Callers.{Caller, AreEnds}
+use Rattle.xs_desk.specs.Callers.{Caller, AreEndsOfLanes}
 use Rattle.xs_desk.specs.Closing.{SumUp}
 use Rattle.xs_desk.specs.Opening.{IsDeskError, IsLaneCount, IsDepth}
 use Rattle.xs_session.specs.declared.manner.Manner.{Manner}
@@ -39,7 +39,7 @@ pub record IsClosed (faulty : Bool) (before now : List GateTrace) (summary : Sum
   pub ends : List Caller
   pub history : List ServedCall
   pub count : length desk.lanes ≡ length before
-  pub are_ends : AreEnds desk.lanes ends
+  pub are_ends : AreEndsOfLanes desk.lanes ends
   pub served : AreServed faulty ends before now
   pub lanes : SumUp desk.lanes ends (length before) summary.lanes.items
   pub is_history : IsHistory history desk

@@ -1,7 +1,7 @@
 -- A worker: it serves the connections of a gate, one after the other, through a lane.
 use Rattle.std.specs.Prelude.{◌≡◌, ◌≢◌, ℕ, ◌⊎◌, Bool, true, false, List, [], ◌∷◌, ◌++◌, codes, slice_get}
 use Rattle.std.specs.Prelude.{Some, Result, Err}
-use Rattle.xs_devices.specs.Passing.{Appends, Consumes}
+use Rattle.xs_io.specs.Passing.{Appends, Consumes}
 use Rattle.xs_resp.specs.Line.{crlf}
 use Rattle.xs_desk.specs.Callers.{Caller}
 use Rattle.xs_session.specs.declared.manner.Manner.{Manner}

@@ -1,7 +1,7 @@
 //! A connection over a reader, a writer and a lane: its requests are asked ahead of the answers.
 ghost use Rattle.std.specs.Prelude.{◌≡◌, ◌⊎◌, ◌++◌, ◌∷◌, [], Bool, ℕ, List, true, false, Ok};
 ghost use Rattle.std.specs.Prelude.{◌<◌, ◌≤◌, length, OnOk, OnErr, IfErr, MatchResult};
-ghost use Rattle.xs_devices.specs.Passing.{Appends, Consumes};
+ghost use Rattle.xs_io.specs.Passing.{Appends, Consumes};
 ghost use Rattle.xs_resp.specs.declared.reply.Reply.{Reply};
 ghost use Rattle.xs_resp.specs.LeftToWrite.{bytes_left};
 ghost use Rattle.xs_command.specs.declared.command.Command.{Command};
@@ -22,7 +22,7 @@ use xs_bytes::Bytes;
 use xs_command::Words;
 use xs_connection::Inform;
 use xs_desk::{Call, Client, Pause, PortFault};
-use xs_devices::{FillFault, Sink, Source, write_all};
+use xs_io::{FillFault, Sink, Source, write_all};
 use xs_session::{Ending, Manner, Session, Turn};
 
 /// Why a connection ended before its end.

@@ -1,7 +1,7 @@
 //! Where the connections of a worker come from.
 use std::sync::Wait;
 use thiserror::Error;
-use xs_devices::{Sink, Source};
+use xs_io::{Sink, Source};
 use xs_session::Manner;
 
 /// Why a gate gives no further connection.

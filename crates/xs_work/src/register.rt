@@ -4,7 +4,7 @@ ghost use Rattle.xs_session.specs.declared.manner.Manner.TheVariants.{Plain};
 ghost use Rattle.xs_work.specs.Gates.{new_gate, seen, with_given, with_returned, at_end};
 
 use std::marker::Model;
-use xs_devices::{Sink, Source};
+use xs_io::{Sink, Source};
 use xs_trace::Trace;
 
 /// The register of a gate whose sessions answer no commands of a connection. Contracts see the connections that were

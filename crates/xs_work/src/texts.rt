@@ -1,9 +1,9 @@
 //! Texts that are written up to a fault of the writer.
 ghost use Rattle.std.specs.Prelude.{◌≡◌, true, false};
-ghost use Rattle.xs_devices.specs.Passing.{Appends};
+ghost use Rattle.xs_io.specs.Passing.{Appends};
 ghost use Rattle.xs_work.specs.Texts.{Says};
 
-use xs_devices::{Sink, write_all};
+use xs_io::{Sink, write_all};
 
 /// Writes a text, up to a fault of the writer, and says whether it is whole.
 pub fn say<W: Sink>(writer: &mut W, text: &[u8]) -> bool

@@ -13,7 +13,7 @@ use crate::texts::say;
 use std::sync::Wait;
 use thiserror::Error;
 use xs_desk::{Client, Ended};
-use xs_devices::{Sink, Source};
+use xs_io::{Sink, Source};
 use xs_session::{Ending, Manner};
 
 /// A worker before its thread is started.

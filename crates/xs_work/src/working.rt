@@ -1,7 +1,7 @@
 //! Work over gates: a thread for each, and one for the keeper of their desk.
 ghost use Rattle.std.specs.Prelude.{◌≡◌, ◌⊎◌, ◌<◌, ◌≤◌, ℕ, true, false, [], length, map, vec_capacity};
 ghost use Rattle.std.specs.Prelude.{List, None, IfOk, IfErr, IfSome, IsSome, IsErrAnd, OnOk, is_err};
-ghost use Rattle.xs_desk.specs.Callers.{AreEnds, HasEnd};
+ghost use Rattle.xs_desk.specs.Callers.{AreEndsOfLanes, HasEndOfLane};
 ghost use Rattle.xs_desk.specs.KeptRings.{KeepsRings, KeepSides};
 ghost use Rattle.xs_desk.specs.Opening.{AreNew, IsLaneCount, IsDepth};
 ghost use Rattle.xs_work.specs.Gates.{GateTrace};
@@ -120,8 +120,8 @@ fn fault_of(fault: WorkerFault) -> WorkFault
 
 /// Closes the desk. All ends are there.
 fn conclude<G: Gate + Drop>(alloc: Global, done: Done<G>) -> Result<WorkOutcome<G>, WorkFailed<G>>
-    requires ends { AreEnds done.keeper.lanes done.ended.items }
-    requires all { (k : ℕ) → k < length done.keeper.lanes → HasEnd done.ended.items k }
+    requires ends { AreEndsOfLanes done.keeper.lanes done.ended.items }
+    requires all { (k : ℕ) → k < length done.keeper.lanes → HasEndOfLane done.ended.items k }
     ensures closed { (before : List GateTrace) → length done.keeper.lanes ≡ length before
         → AreServed (is_err done.outcome) done.ended.items before (map G.trace done.gates.items)
         → IfOk result (λ outcome. IsClosed false before (map G.trace outcome.gates.items) outcome.summary) }

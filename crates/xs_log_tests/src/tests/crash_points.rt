@@ -8,7 +8,7 @@ use std::process::Abort;
 use std::test::Fail;
 use xs_bytes::Bytes;
 use xs_command::{Command, read_command};
-use xs_devices::FromRead;
+use xs_io::FromRead;
 use xs_keys::Keyspace;
 use xs_log::{Extent, LogFault, Recovered, read_last_log};
 use xs_resp::encode;

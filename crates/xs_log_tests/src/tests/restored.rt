@@ -4,7 +4,7 @@ use crate::tests::snapshot_text::snapshot_text;
 use std::alloc::Global;
 use std::process::Abort;
 use std::test::Fail;
-use xs_devices::FromRead;
+use xs_io::FromRead;
 use xs_keys::Keyspace;
 use xs_resp::encode;
 use xs_snapshot::read_snapshot;

@@ -7,7 +7,7 @@ use std::alloc::Global;
 use std::process::Abort;
 use std::test::Fail;
 use xs_bytes::{Bytes, U63};
-use xs_devices::FromRead;
+use xs_io::FromRead;
 use xs_log::{Piece, SnapshotFault, SnapshotReader, SnapshotWriter, WriteFault};
 use xs_stream::{AddId, Field, Id, Moment, Stream};
 use xs_tape::MemoryTape;

@@ -8,7 +8,7 @@ use std::alloc::Global;
 use std::process::Abort;
 use std::test::Fail;
 use xs_bytes::Bytes;
-use xs_devices::FromRead;
+use xs_io::FromRead;
 use xs_log::{TapeLog, restart};
 use xs_replay::EventLog;
 use xs_stream::Moment;

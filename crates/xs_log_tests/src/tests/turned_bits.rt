@@ -5,7 +5,7 @@ use crate::tests::log_text::LogText;
 use std::alloc::Global;
 use std::process::Abort;
 use std::test::Fail;
-use xs_devices::FromRead;
+use xs_io::FromRead;
 use xs_log::{Extent, LogFault, Recovered};
 
 /// The bits of a byte.

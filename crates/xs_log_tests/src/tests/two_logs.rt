@@ -3,7 +3,7 @@ use crate::tests::crash_points::{all_answers, answers_of, records_within};
 use crate::tests::log_text::LogText;
 use std::alloc::Global;
 use std::test::Fail;
-use xs_devices::FromRead;
+use xs_io::FromRead;
 use xs_log::{Extent, LogFault, LogsFault, Recovered, recover};
 
 /// How many records the closed log has.

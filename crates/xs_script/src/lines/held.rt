@@ -6,7 +6,7 @@ ghost use Rattle.xs_script.specs.Line.{is_line_end};
 use memchr::memchr;
 use std::alloc::Global;
 use std::marker::Model;
-use xs_devices::{Fill, FillFault, Input, Source};
+use xs_io::{Fill, FillFault, Input, Source};
 
 /// Bytes that came in and aren't taken yet. A contract sees them as a list.
 #[derive(Drop)]

@@ -8,7 +8,7 @@ use std::sync::atomic::{AtomicU64, Ordering};
 use std::sync::{Arc, Wait};
 use std::thread::Threads;
 use xs_desk::{DeskError, LaneSummary, Summary};
-use xs_devices::{Failed, Sink, Source};
+use xs_io::{Failed, Sink, Source};
 use xs_session::Manner;
 use xs_stream::Moment;
 use xs_work::{Gate, GateFault, Register, WorkFault, WorkOutcome, work};

@@ -4,7 +4,7 @@ ghost use Rattle.xs_script.specs.Line.{script_lines};
 ghost use Rattle.xs_script.specs.Script.{IsScript};
 
 use std::alloc::Global;
-use xs_devices::{FromRead, ToWrite};
+use xs_io::{FromRead, ToWrite};
 use xs_script::{ScriptFault, run_script};
 
 /// Runs a script over these bytes, and gives the replies.

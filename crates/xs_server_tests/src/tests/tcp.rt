@@ -6,7 +6,7 @@ use std::io::{self, ErrorKind, Read, Write};
 use std::net::{Ipv4Addr, Shutdown, TcpListener, TcpStream};
 use std::thread;
 use std::time::Duration;
-use xs_devices::{Failed, Source};
+use xs_io::{Failed, Source};
 use xs_tcp::halves::{HalvesMemory, Incoming, Peer};
 use xs_tcp::limits::{open_files_in, waiting_room};
 use xs_tcp::serve_gate::{AfterFailure, after_failure};

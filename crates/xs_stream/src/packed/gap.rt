@@ -3,7 +3,7 @@ ghost use Rattle.std.specs.Prelude.{◌≡◌, ◌+◌, ◌-◌, ◌≤◌, ◌+
 ghost use Rattle.std.specs.List.{remove_range};
 
 /// How many bytes move at once.
-const PIECE: usize = 512;
+const GAP_BYTES: usize = 512;
 
 /// Takes a part out, and gives memory back where less than half of it is left.
 pub(crate) fn cut(bytes: &mut Vec<u8>, from: usize, to: usize)
@@ -31,7 +31,7 @@ fn close_gap(bytes: &mut Vec<u8>, from: usize, to: usize)
     let left = bytes.len() - gap;
     let mut at = from;
     while at < left {
-        let piece = PIECE.min(left - at);
+        let piece = GAP_BYTES.min(left - at);
         move_piece(bytes, at, gap, piece);
         at += piece;
     }
@@ -45,7 +45,7 @@ fn move_piece(bytes: &mut Vec<u8>, at: usize, gap: usize, piece: usize)
     ensures { bytes.new.items ≡ take at bytes.old.items
         ++ (take piece (drop (at + gap) bytes.old.items) ++ drop (at + piece) bytes.old.items) }
 {
-    let mut room = [0; PIECE];
+    let mut room = [0; GAP_BYTES];
     let held = &mut room[..piece];
     held.copy_from_slice(&bytes.as_slice()[at + gap..at + gap + piece]);
     bytes.as_mut_slice()[at..at + piece].copy_from_slice(held);
@@ -85,7 +85,7 @@ fn raise(bytes: &mut Vec<u8>, start: usize, from: usize, to: usize)
     }
     let mut end = from;
     while start < end {
-        let piece = PIECE.min(end - start);
+        let piece = GAP_BYTES.min(end - start);
         end -= piece;
         raise_piece(bytes, end, gap, piece);
     }
@@ -98,7 +98,7 @@ fn raise_piece(bytes: &mut Vec<u8>, at: usize, gap: usize, piece: usize)
     ensures { bytes.new.items ≡ take (at + gap) bytes.old.items
         ++ (take piece (drop at bytes.old.items) ++ drop (at + gap + piece) bytes.old.items) }
 {
-    let mut room = [0; PIECE];
+    let mut room = [0; GAP_BYTES];
     let held = &mut room[..piece];
     held.copy_from_slice(&bytes.as_slice()[at..at + piece]);
     bytes.as_mut_slice()[at + gap..at + gap + piece].copy_from_slice(held);

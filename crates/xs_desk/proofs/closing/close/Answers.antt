@@ -5,7 +5,7 @@ use Rattle.xs_keys.specs.Event.{History}
 use Rattle.xs_keys.specs.Content.{Content}
 use Rattle.xs_keys.specs.Headline.{RunsOn}
 use Rattle.xs_desk.specs.History.{LaneOf, Desk, events_of, replies_of}
-use Rattle.xs_desk.specs.Callers.{AreEnds}
+use Rattle.xs_desk.specs.Callers.{AreEndsOfLanes}
 use Rattle.xs_desk.specs.Closing.{AreEven}
 use Rattle.xs_desk.proofs.Histories.{history-even}
 use Rattle.xs_desk.proofs.closing.close.Goals as goal
@@ -14,7 +14,7 @@ runs-of : (old start new left : Content) (events : History) (replies : List Repl
 runs-of old start new left events replies begins ends runs = subst (λ c. RunsOn c events replies left) begins (subst (λ c. RunsOn old events replies c) ends runs)
 
 pub sum_up_all-requires-clause-ends : goal.sum_up_all-requires-clause-ends
-sum_up_all-requires-clause-ends c = subst (λ (ls : List LaneOf). AreEnds ls c.args.ended.items) (ap (λ (d : Desk). d.lanes) c.into_parts-lane_ends.ensures.parts.1) c.requires
+sum_up_all-requires-clause-ends c = subst (λ (ls : List LaneOf). AreEndsOfLanes ls c.args.ended.items) (ap (λ (d : Desk). d.lanes) c.into_parts-lane_ends.ensures.parts.1) c.requires
 
 pub sum_up_all-requires-clause-even : goal.sum_up_all-requires-clause-even
 sum_up_all-requires-clause-even c =

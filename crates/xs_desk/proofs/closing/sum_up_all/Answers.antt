@@ -2,7 +2,7 @@ use Rattle.std.proofs.Common.{◌+◌, ◌<◌, length, map, arith, subst, sym, 
 use Rattle.std.proofs.Math.Seq.{map-set_same}
 use Rattle.std.proofs.lemmas.List.{length-set}
 use Rattle.xs_desk.specs.LaneEnds.{lane_of}
-use Rattle.xs_desk.specs.Callers.{HasEnd}
+use Rattle.xs_desk.specs.Callers.{HasEndOfLane}
 use Rattle.xs_desk.specs.Closing.{SumUp}
 use Rattle.xs_desk.proofs.Closings.{side-of, sum-up-more, same-ends}
 use Rattle.xs_desk.proofs.closing.sum_up_all.Goals as goal
@@ -10,7 +10,7 @@ use Rattle.xs_desk.proofs.closing.sum_up_all.Goals as goal
 pub unreachable-requires : goal.unreachable-requires
 unreachable-requires c =
     let lt : c.loop-k.k < length c.args.lane_ends.now.items = omega arith in
-    c.in_default.ensures.none (subst (λ (es : _). HasEnd es c.loop-k.k) (sym c.loop-k.invariant.ended) (c.requires.all c.loop-k.k lt))
+    c.in_default.ensures.none (subst (λ (es : _). HasEndOfLane es c.loop-k.k) (sym c.loop-k.invariant.ended) (c.requires.all c.loop-k.k lt))
 
 pub sum_up-summary-requires-clause-side : goal.sum_up-summary-requires-clause-side
 sum_up-summary-requires-clause-side c =

@@ -1,5 +1,5 @@
 use Rattle.std.proofs.Common.{length, sym, ap, ◌∙◌, subst}
-use Rattle.xs_devices.specs.Passing.{known_by}
+use Rattle.xs_io.specs.Passing.{known_by}
 use Rattle.xs_tape.specs.Crash.{before_zero}
 use Rattle.std.proofs.Common.{take, suc, None, ◌++◌}
 use Rattle.xs_bytes.specs.SortedMap.{empty}

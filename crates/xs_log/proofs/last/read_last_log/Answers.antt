@@ -1,6 +1,6 @@
 use Rattle.std.proofs.Common.{ap, ◌∙◌, length, take}
 use Rattle.std.specs.Option.{option_map}
-use Rattle.xs_devices.specs.Passing.{Passing, known_by}
+use Rattle.xs_io.specs.Passing.{Passing, known_by}
 use Rattle.xs_tape.specs.declared.before_zero.BeforeZero.{BeforeZero}
 use Rattle.xs_tape.specs.BeforeZero.{rest_before}
 use Rattle.xs_tape.specs.Crash.{before_zero}

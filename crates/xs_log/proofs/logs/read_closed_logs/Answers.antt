@@ -1,7 +1,7 @@
 use Rattle.std.proofs.Common.{rules, ◌≡◌, refl, ℕ, Some, List, [], ◌∷◌, ◌++◌, ◌+◌, length, length-append, sym, ap, ◌∙◌, subst, arith}
 use Rattle.std.proofs.lemmas.List.{append-nil, append_assoc, nil_from_length}
 use Rattle.std.specs.Vec.Iter.{into_iter_items}
-use Rattle.xs_devices.specs.Passing.{known_by}
+use Rattle.xs_io.specs.Passing.{known_by}
 use Rattle.xs_replay.specs.After.{contents_after, moment_after}
 use Rattle.xs_log.specs.Reading.{IsClosedLog}
 use Rattle.xs_log.specs.Logs.{GiveClosedLogs, MayGiveClosedLogs}

@@ -2,7 +2,7 @@ use Rattle.std.proofs.Common.{◌≡◌, List, ◌+◌, ◌++◌, length}
 use Rattle.std.specs.Vec.Iter.{into_iter_items, into_iter_len}
 use Rattle.xs_keys.specs.Event.{Event}
 use Rattle.xs_replay.specs.After.{contents_after, moment_after}
-use Rattle.xs_devices.specs.Passing.{known_by}
+use Rattle.xs_io.specs.Passing.{known_by}
 use Rattle.xs_log.specs.Logs.{MayGiveClosedLogs}
 use Rattle.xs_log.proofs.logs.read_closed_logs.Given as goal
 

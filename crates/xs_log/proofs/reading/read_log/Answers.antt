@@ -1,6 +1,6 @@
 use Rattle.std.proofs.Common.{◌≡◌, ◌++◌, [], drop, Ok, sym, ap, ◌∙◌, subst, arith}
 use Rattle.std.proofs.lemmas.Bool.Decides.{nat_tests}
-use Rattle.xs_devices.proofs.Passing.{Consumes-nil, Consumes-trans}
+use Rattle.xs_io.proofs.Passing.{Consumes-nil, Consumes-trans}
 use Rattle.xs_tape.specs.Heads.{MayBeCut}
 use Rattle.xs_replay.specs.Log.{HasEvents}
 use Rattle.xs_log.proofs.Steps.{read_first, read_fed, read_all, rest_is, is_cut, seen_part}

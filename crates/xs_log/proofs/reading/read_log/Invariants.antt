@@ -1,5 +1,5 @@
 use Rattle.std.proofs.Common.{ℕ, List}
-use Rattle.xs_devices.specs.Passing.{Consumes}
+use Rattle.xs_io.specs.Passing.{Consumes}
 use Rattle.xs_log.specs.Reading.{IsReadUpTo}
 use Rattle.xs_log.proofs.reading.read_log.Given as goal
 

@@ -1,5 +1,5 @@
 use Rattle.std.proofs.Common.{ℕ, List}
-use Rattle.xs_devices.specs.Passing.{Passing}
+use Rattle.xs_io.specs.Passing.{Passing}
 use Rattle.xs_log.specs.SnapshotReading.{HasTaken}
 use Rattle.xs_log.proofs.snapshot_input.await_request.Given as goal
 

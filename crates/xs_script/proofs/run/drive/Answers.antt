@@ -1,5 +1,5 @@
 use Rattle.std.proofs.Common.{[], ◌++◌, inl, inr, refl, ◌∙◌}
-use Rattle.xs_devices.proofs.Passing.{Consumes-nil, Appends-nil, Consumes-trans, Appends-trans}
+use Rattle.xs_io.proofs.Passing.{Consumes-nil, Appends-nil, Consumes-trans, Appends-trans}
 use Rattle.xs_script.specs.Cause.{writer}
 use Rattle.xs_script.proofs.run.drive.Goals as goal
 
@@ -9,21 +9,21 @@ turns-init g c = record { read = []; sent = []; consumes = Consumes-nil _; appen
 pub turns-preserved : goal.turns-preserved
 turns-preserved g c =
     let inv = c.turns.invariant in
-    let (came, consumes, stands) = c.in-Ok.ensures.comes inv.read inv.sent inv.stands in
-    let (more, appends, after) = c.in-Ok-send_on.ensures.sends c.come.new.keyspace (inv.read ++ came) inv.sent stands in
+    let (came, consumes, stands) = c.in-Ok.ensures.turn inv.read inv.sent inv.stands in
+    let (more, appends, after) = c.in-Ok-send_on.ensures.sends c.take_turn.new.keyspace (inv.read ++ came) inv.sent stands in
     record {
       read = inv.read ++ came;
       sent = inv.sent ++ more;
       consumes = Consumes-trans _ _ _ inv.read came inv.consumes consumes;
       appends = Appends-trans _ _ _ inv.sent more inv.appends appends;
       stands = after;
-      counted = c.come.ensures.counted ∙ inv.counted;
+      counted = c.take_turn.ensures.counted ∙ inv.counted;
     }
 
 pub returns-in-Err-clause-ends : goal.returns-in-Err-clause-ends
 returns-in-Err-clause-ends g c =
     let inv = c.turns.invariant in
-    let (came, consumes, (cause, end, because)) = c.in-Err.ensures.comes inv.read inv.sent inv.stands in
+    let (came, consumes, (cause, end, because)) = c.in-Err.ensures.turn inv.read inv.sent inv.stands in
     let (more, appends, ended) = c.send_last.ensures cause (inv.read ++ came) inv.sent end in
     let read = Consumes-trans _ _ _ inv.read came inv.consumes consumes in
     let sent = Appends-trans _ _ _ inv.sent more inv.appends appends in
@@ -35,6 +35,6 @@ returns-in-Err-clause-ends g c =
 pub returns-in-Err-send_on-clause-ends : goal.returns-in-Err-send_on-clause-ends
 returns-in-Err-send_on-clause-ends g c =
     let inv = c.turns.invariant in
-    let (came, consumes, stands) = c.in-Ok.ensures.comes inv.read inv.sent inv.stands in
-    let (more, appends, ended) = c.in-Err-send_on.ensures.sends c.come.new.keyspace (inv.read ++ came) inv.sent stands in
+    let (came, consumes, stands) = c.in-Ok.ensures.turn inv.read inv.sent inv.stands in
+    let (more, appends, ended) = c.in-Err-send_on.ensures.sends c.take_turn.new.keyspace (inv.read ++ came) inv.sent stands in
     (inv.read ++ came, inv.sent ++ more, writer, Consumes-trans _ _ _ inv.read came inv.consumes consumes, Appends-trans _ _ _ inv.sent more inv.appends appends, ended, c.in-Err-send_on.ensures.cause)

@@ -6,7 +6,7 @@ use std::test::Fail;
 use xs_bytes::{Bytes, U63};
 use xs_command::Words;
 use xs_desk::{Client, Keeper, Pause, desk};
-use xs_devices::{Sink, Source};
+use xs_io::{Sink, Source};
 use xs_session::{Ending, Manner, Session, Tally};
 use xs_stream::Moment;
 use xs_work::{AheadFault, Attend, serve_ahead};

@@ -1,5 +1,5 @@
 use Rattle.std.proofs.Common.{[]}
-use Rattle.xs_devices.proofs.Passing.{Appends-nil}
+use Rattle.xs_io.proofs.Passing.{Appends-nil}
 use Rattle.xs_work.specs.Ahead.{IsAheadAfter}
 use Rattle.xs_work.proofs.AheadTurns.{sent-none}
 use Rattle.xs_work.proofs.ahead.make_room.Goals as goal

@@ -1,6 +1,6 @@
 use Rattle.std.proofs.Common.{[], Ok, sym, ap, ◌∙◌, subst}
 use Rattle.std.proofs.lemmas.List.{append-nil}
-use Rattle.xs_devices.proofs.Passing.{Consumes-nil, Consumes-kept}
+use Rattle.xs_io.proofs.Passing.{Consumes-nil, Consumes-kept}
 use Rattle.xs_resp.specs.LeftToWrite.{bytes_left}
 use Rattle.xs_session.specs.declared.session.Session.{Session}
 use Rattle.xs_session.specs.Session.{SessionIsAfter, Waits}

@@ -1,6 +1,6 @@
 use Rattle.std.proofs.Common.{rules, true, false, ◌≡◌, [], ◌++◌, length, take, drop, sym, ap, ◌∙◌, refl, append_assoc, arith, length-append, length-drop}
 use Rattle.std.proofs.lemmas.List.{append-nil, take-append-drop}
-use Rattle.xs_devices.proofs.Passing.{Appends-nil, Appends-trans}
+use Rattle.xs_io.proofs.Passing.{Appends-nil, Appends-trans}
 use Rattle.xs_resp.specs.LeftToWrite.{bytes_left}
 use Rattle.xs_session.proofs.Tests.{empty-none, empty-some}
 use Rattle.xs_work.proofs.AheadTurns.{part-sent}

@@ -1,5 +1,5 @@
 use Rattle.std.proofs.Common.{◌≡◌, ℕ, List, ◌++◌, length}
-use Rattle.xs_devices.specs.Passing.{Appends}
+use Rattle.xs_io.specs.Passing.{Appends}
 use Rattle.xs_resp.specs.declared.reply.Reply.{Reply}
 use Rattle.xs_resp.specs.LeftToWrite.{bytes_left}
 use Rattle.xs_command.specs.declared.command.Command.{Command}

@@ -1,5 +1,5 @@
 use Rattle.std.proofs.Common.{◌++◌, ap, sym, ◌∙◌, subst, append_assoc}
-use Rattle.xs_devices.proofs.Passing.{Appends-trans}
+use Rattle.xs_io.proofs.Passing.{Appends-trans}
 use Rattle.xs_resp.specs.LeftToWrite.{bytes_left}
 use Rattle.xs_session.specs.declared.session.Session.{Session}
 use Rattle.xs_session.specs.Places.{has_open, NoneReady}

@@ -1,5 +1,5 @@
 use Rattle.std.proofs.Common.{ℕ, List}
-use Rattle.xs_devices.specs.Passing.{Appends, Consumes}
+use Rattle.xs_io.specs.Passing.{Appends, Consumes}
 use Rattle.xs_command.specs.declared.command.Command.{Command}
 use Rattle.xs_work.specs.Ahead.{IsAheadAfter}
 use Rattle.xs_work.proofs.ahead.serve_ahead.Given as goal

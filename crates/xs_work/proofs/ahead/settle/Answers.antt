@@ -1,5 +1,5 @@
 use Rattle.std.proofs.Common.{[], ◌++◌}
-use Rattle.xs_devices.proofs.Passing.{Appends-nil}
+use Rattle.xs_io.proofs.Passing.{Appends-nil}
 use Rattle.xs_work.proofs.AheadTurns.{sent-none, fails-gone}
 use Rattle.xs_work.proofs.ahead.settle.Goals as goal
 

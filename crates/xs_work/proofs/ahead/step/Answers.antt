@@ -1,5 +1,5 @@
 use Rattle.std.proofs.Common.{[], ◌∷◌, ◌++◌, Ok, Option, sym, ap, ◌∙◌, subst, refl}
-use Rattle.xs_devices.proofs.Passing.{Consumes-nil, Appends-nil}
+use Rattle.xs_io.proofs.Passing.{Consumes-nil, Appends-nil}
 use Rattle.xs_resp.specs.HeldBytes.{Held}
 use Rattle.xs_resp.specs.LeftToWrite.{bytes_left}
 use Rattle.xs_session.specs.declared.ending.Ending.{Ending}

@@ -1,5 +1,5 @@
 use Rattle.std.proofs.Common.{rules, ◌≢◌, [], Err}
-use Rattle.xs_devices.proofs.Passing.{Consumes-nil, Appends-nil}
+use Rattle.xs_io.proofs.Passing.{Consumes-nil, Appends-nil}
 use Rattle.xs_work.specs.declared.ahead.AheadFault.TheVariants as fault
 use Rattle.xs_work.proofs.AheadWork.{serves-none, serves-told, serves-untold}
 use Rattle.xs_work.proofs.worker.serve_one.Goals as goal

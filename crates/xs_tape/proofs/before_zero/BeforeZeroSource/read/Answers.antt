@@ -1,7 +1,7 @@
 use Rattle.std.proofs.Common.{inl, inr, ap, ◌∙◌, sym, subst, take}
 use Rattle.std.specs.Io.KnownBytes.{Consumes, IsAtEnd}
 use Rattle.std.proofs.Common.{◌≡◌, ◌<◌, ◌++◌, length}
-use Rattle.xs_devices.specs.Passing.{known_by}
+use Rattle.xs_io.specs.Passing.{known_by}
 use Rattle.xs_tape.specs.declared.before_zero.BeforeZero.{BeforeZero}
 use Rattle.xs_tape.specs.BeforeZero.{rest_before}
 use Rattle.xs_tape.proofs.Walks.{Met, given_bytes}

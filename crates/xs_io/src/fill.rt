@@ -13,9 +13,9 @@ pub enum FillFault {
 /// What bytes are read into, behind those that it has.
 pub trait Fill {
     ghost use Rattle.std.specs.Prelude.{◌≡◌, ◌≢◌, ◌+◌, ℕ, List, true, IfOk, OnErr, Ok, Err};
-    ghost use Rattle.xs_devices.specs.Passing.{Keeps};
-    ghost use Rattle.xs_devices.specs.declared.fill.FillFault.{FillFault};
-    ghost use Rattle.xs_devices.specs.Device.{counter_at, Gave};
+    ghost use Rattle.xs_io.specs.Passing.{Keeps};
+    ghost use Rattle.xs_io.specs.declared.fill.FillFault.{FillFault};
+    ghost use Rattle.xs_io.specs.Device.{counter_at, Gave};
 
     /// The same, with these bytes behind its own.
     ghost with_bytes: { Self → List ℕ → Self };

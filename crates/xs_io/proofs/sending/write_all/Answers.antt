@@ -2,8 +2,8 @@ use Rattle.std.proofs.Common.{◌≡◌, ◌+◌, ◌-◌, ◌≤◌, ◌++◌, 
 use Rattle.std.proofs.lemmas.List.{take_all, length-drop}
 use Rattle.std.proofs.Math.Seq.{take-append-add}
 use Rattle.std.proofs.lemmas.List.{take-append-drop, length-take-le}
-use Rattle.xs_devices.proofs.Passing.{Appends-trans}
-use Rattle.xs_devices.proofs.sending.write_all.Goals as goal
+use Rattle.xs_io.proofs.Passing.{Appends-trans}
+use Rattle.xs_io.proofs.sending.write_all.Goals as goal
 
 take-more : (n k : ℕ) (bytes : List ℕ) → n ≤ length bytes → take n bytes ++ take k (drop n bytes) ≡ take (n + k) bytes
 take-more n k bytes fits =

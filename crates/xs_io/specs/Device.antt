@@ -1,7 +1,7 @@
 -- What readers and writers tell of themselves.
 use Rattle.std.specs.Prelude.{◌≡◌, ℕ, ◌≤◌, Bool, true, false, ◌&&◌, ◌==◌, nat_lt, min, List, length, Result, Ok}
 use Rattle.std.specs.Prelude.{Err}
-use Rattle.xs_devices.specs.Passing.{Passing, Consumes, IsAtEnd}
+use Rattle.xs_io.specs.Passing.{Passing, Consumes, IsAtEnd}
 
 -- counts stop at the greatest 64-bit number
 abbrev pub counter_at : ℕ → ℕ

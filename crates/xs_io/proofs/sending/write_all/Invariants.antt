@@ -1,6 +1,6 @@
 use Rattle.std.proofs.Common.{◌≤◌, ◌-◌, length, take}
-use Rattle.xs_devices.specs.Passing.{Appends}
-use Rattle.xs_devices.proofs.sending.write_all.Given as goal
+use Rattle.xs_io.specs.Passing.{Appends}
+use Rattle.xs_io.proofs.sending.write_all.Given as goal
 
 -- the first bytes are written
 abbrev pub invariant-loop-sent : goal.invariant-loop-sent

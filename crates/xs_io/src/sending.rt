@@ -1,6 +1,6 @@
 //! Replies on their way to a writer.
 ghost use Rattle.std.specs.Prelude.{◌≡◌, ◌<◌, true, length, take, IfOk, IfErr};
-ghost use Rattle.xs_devices.specs.Passing.{Appends};
+ghost use Rattle.xs_io.specs.Passing.{Appends};
 
 use crate::device::Sink;
 

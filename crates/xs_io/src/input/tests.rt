@@ -9,7 +9,7 @@ const MOST_KEPT: usize = 300_000;
 /// A buffer with so many pieces in it.
 fn filled_buffer(alloc: Global, pieces: usize) -> Result<Input, AllocError> {
     let mut bytes = Vec::new(alloc);
-    bytes.resize(PIECE, 7)?;
+    bytes.resize(READ_BYTES, 7)?;
     let mut input = Input::new(alloc);
     for _ in 0..pieces {
         match input.fill(&mut FromRead::new(bytes.as_slice())) {
@@ -23,7 +23,7 @@ fn filled_buffer(alloc: Global, pieces: usize) -> Result<Input, AllocError> {
 #[test]
 fn a_great_buffer_is_given_back_by_clear(rt: HostRuntime) -> Result<(), Fail> {
     let mut input = filled_buffer(rt.alloc(), 20)?;
-    assert_eq!(rt; input.bytes().len(), 20 * PIECE);
+    assert_eq!(rt; input.bytes().len(), 20 * READ_BYTES);
     input.clear();
     assert!(rt; input.bytes().is_empty());
     assert!(rt; input.bytes.capacity() <= MOST_KEPT);

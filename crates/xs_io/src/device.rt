@@ -1,8 +1,8 @@
 //! Readers and writers, and what contracts see of them: the bytes that have passed, those that are known, how many calls
 //! they have answered, whether they have failed, and whether the end was met.
 ghost use Rattle.std.specs.Prelude.{◌≡◌, ℕ, ◌+◌, ◌≤◌, Bool, false, ◌||◌, List, Option, IfOk, length, is_err};
-ghost use Rattle.xs_devices.specs.Passing.{Passing, at_first, ReadConsumes, WriteAppends};
-ghost use Rattle.xs_devices.specs.Device.{counter_at, is_end, is_failure};
+ghost use Rattle.xs_io.specs.Passing.{Passing, at_first, ReadConsumes, WriteAppends};
+ghost use Rattle.xs_io.specs.Device.{counter_at, is_end, is_failure};
 
 use std::io::{Read, Write};
 use xs_trace::Trace;

@@ -1,7 +1,7 @@
 //! The bytes that were read and aren't used yet.
 ghost use Rattle.std.specs.Prelude.{◌≡◌, ◌+◌, ◌≤◌, ◌++◌, [], true, length, take, drop, IfOk, OnOk, OnErr};
-ghost use Rattle.xs_devices.specs.Passing.{Consumes, Keeps, IsAtEnd};
-ghost use Rattle.xs_devices.specs.Device.{counter_at};
+ghost use Rattle.xs_io.specs.Passing.{Consumes, Keeps, IsAtEnd};
+ghost use Rattle.xs_io.specs.Device.{counter_at};
 
 use crate::device::{Failed, Source};
 use crate::fill::{Fill, FillFault};
@@ -12,7 +12,7 @@ use std::marker::Model;
 mod tests;
 
 /// The most bytes of one read.
-const PIECE: usize = 65_536;
+const READ_BYTES: usize = 65_536;
 
 /// How many bytes of memory a buffer keeps that many bytes made large.
 const KEPT: usize = 262_144;
@@ -97,7 +97,7 @@ impl Input {
         if self.start == 0 {
             return;
         }
-        if self.bytes.len() - self.end >= PIECE {
+        if self.bytes.len() - self.end >= READ_BYTES {
             return;
         }
         let count = self.end - self.start;
@@ -149,10 +149,10 @@ fn make_room(bytes: &mut Vec<u8>, end: usize) -> Result<(), AllocError>
     ensures front { take end bytes.new.items ≡ take end bytes.old.items }
     ensures within { end ≤ length bytes.new.items }
 {
-    if bytes.len() - end >= PIECE {
+    if bytes.len() - end >= READ_BYTES {
         return Ok(());
     }
-    bytes.resize(end + PIECE, 0)
+    bytes.resize(end + READ_BYTES, 0)
 }
 
 /// Reads a piece to behind an index, and says how many bytes it has.
@@ -168,6 +168,6 @@ fn read_behind<R: Source>(bytes: &mut Vec<u8>, end: usize, reader: &mut R) -> Re
     ensures err { OnErr result ((R.broken reader.new ≡ true) × Keeps (R.rest reader.old) (R.rest reader.new)) }
 {
     let (_, behind) = bytes.as_mut_slice().split_at_mut(end);
-    let (room, _) = behind.split_at_mut(PIECE);
+    let (room, _) = behind.split_at_mut(READ_BYTES);
     reader.read(room)
 }

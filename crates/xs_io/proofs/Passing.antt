@@ -1,7 +1,7 @@
 -- How passing bytes add up.
 use Rattle.std.proofs.Common.{◌≡◌, ℕ, List, [], ◌++◌, sym, ap, ◌∙◌, append_assoc, append-nil}
 use Rattle.std.proofs.KnownBytes as std
-use Rattle.xs_devices.specs.Passing.{Passing, Consumes, Appends, Keeps}
+use Rattle.xs_io.specs.Passing.{Passing, Consumes, Appends, Keeps}
 
 joined : (a b c bs cs : List ℕ) → b ≡ a ++ bs → c ≡ b ++ cs → c ≡ a ++ (bs ++ cs)
 joined a b c bs cs p q = q ∙ ap (λ l. l ++ cs) p ∙ append_assoc a bs cs
