@@ -8,16 +8,18 @@ It needs redis-server and cc.
 
 size: so many jobs of 100 bytes are added, read, acknowledged and deleted, with 1,000 waiting at any time. Both servers
 compact by themselves, as they do if nothing is set. The greatest sizes of their folders are told.
-pauses: so many entries of 115 bytes, which can't be compressed, stand in closed logs. So many requests a second over 50
+pauses: so many entries of 115 bytes, which can't be compressed, are in closed logs. So many requests a second over 50
 connections, half of them XADD, half XREADGROUP, each sent at its moment by bench/paced_driver.c, are answered for some
-seconds, and then while the folder is compacted by a process of its own, as its unit has it; Redis is asked for
-BGREWRITEAOF. Each figure is the median of the runs. With them stands the memory of the processes: resident here,
-private of the child of Redis.
+seconds, and then while the folder is compacted: by a process of its own, as its unit has it, or by the server, which
+begins at its start, since that is due. Redis is asked for BGREWRITEAOF. A run begins once the disk is at rest. Each
+figure is the median of the runs. Behind them is the memory of the processes: resident here, private of the child of
+Redis.
 restart: how long a start takes on logs, and on a snapshot and the last log; of Redis on its plain file, and on its base
 file. Ours is from the start of the program to its line that tells how many records it read; Redis tells its own.
 """
 import argparse
 import base64
+import collections.abc
 import contextlib
 import glob
 import os
@@ -31,6 +33,7 @@ import subprocess
 import tempfile
 import threading
 import time
+import typing
 
 from log import logged_words, program_words, redis_words, start, tell_sync
 from tcp import HERE, free_port, spread
@@ -44,6 +47,9 @@ PATIENCE = 60
 # How long requests come before a compaction, in seconds, and how much of that isn't counted; how long they are counted
 # behind it, since Redis removes its old file then.
 BEFORE, WARM, BEHIND = 6, 1, 0.5
+# The disk is at rest once 99 % of the syncs take at most so many seconds, in each of so many seconds in a row. It is
+# waited for so many seconds at most.
+REST_SYNC, REST_SECONDS, REST_PATIENCE = 0.001, 3, 120
 # With entries of this size 1,000,000 of them fill three logs.
 SIZE = 115
 
@@ -202,6 +208,24 @@ def copied(asked, folder):
         yield copy
 
 
+def wait_for_rest(asked):
+    """Waits until the disk does nothing else: it may still remove what was there."""
+    begun, calm = time.monotonic(), 0
+    with tempfile.TemporaryFile(dir=asked.folder, buffering=0) as file:
+        while calm < REST_SECONDS:
+            if time.monotonic() - begun > REST_PATIENCE:
+                print("(the disk didn't come to rest)", flush=True)
+                return
+            taken, second = [], time.monotonic()
+            while time.monotonic() - second < 1:
+                file.write(bytes(100))
+                before = time.monotonic()
+                os.fdatasync(file.fileno())
+                taken.append(time.monotonic() - before)
+            taken.sort()
+            calm = calm + 1 if taken[len(taken) * 99 // 100] <= REST_SYNC else 0
+
+
 def memory(process, name="VmRSS"):
     """The bytes that a process has resident, or 0 if it is gone."""
     with contextlib.suppress(OSError, StopIteration), open(f"/proc/{process}/status", encoding="ascii") as lines:
@@ -248,16 +272,53 @@ def rewrite(_, __, server):
 # ---- pauses
 
 
+def compact_itself(_, __, server):
+    """Waits until a server has compacted its folder, which it begins at its start. It gives the server's greatest
+    memory."""
+    client, used, status = Client(server.port), 0, b""
+    while b"log_snapshot:0" in status or b"log_snapshot" not in status or b"aof_rewrite_in_progress:1" in status:
+        used = max(used, memory(server.child.pid))
+        time.sleep(0.005)
+        status = client.ask(request(b"INFO", b"persistence"))
+    return [0, used]
+
+
+class Way(typing.NamedTuple):
+    """A way to compact: the place of its folder, the words of its server, the work, and for how many seconds requests
+    come before it."""
+    folder: int
+    words: collections.abc.Callable
+    work: collections.abc.Callable
+    before: float
+
+
+def ways(asked, ours, theirs):
+    """The ways by their names, with these policies. Redis is the last one."""
+    def logged(when):
+        return lambda folder: logged_words(asked.program, CONNECTIONS, folder, ours, when)
+
+    return {"a process": Way(0, logged("never"), compact, BEFORE),
+            "the server": Way(0, logged("serving"), compact_itself, 0),
+            "Redis": Way(1, lambda folder: redis_words(folder, theirs), rewrite, BEFORE)}
+
+
 def latencies(lines, kind, begin, end):
     """Of the requests of this kind that were due between two moments, in microseconds."""
     rows = [line.split() for line in lines]
     return [int(late) for name, due, late in rows if name == kind and begin <= int(due) / 1e6 <= end]
 
 
-def one_run(asked, words, folder, work, paced):
-    """The latencies of both kinds before a work and during it, how long it took, and the memory of the server before it
-    and meanwhile."""
-    server = start_loaded(words)
+class Run(typing.NamedTuple):
+    """The latencies of both kinds before a work and during it, how long it took, and the memory of the server before it,
+    of what compacts, and of the server meanwhile."""
+    before: list
+    meanwhile: list
+    took: float
+    memory: list
+
+
+def one_run(asked, way, folder, paced):
+    server = start_loaded(way.words(folder))
     try:
         asking = [paced, str(server.port), str(CONNECTIONS), str(asked.rate), "600", "s", "g", "v" * SIZE]
         driver = subprocess.Popen(asking, stdout=subprocess.PIPE, text=True)
@@ -265,9 +326,9 @@ def one_run(asked, words, folder, work, paced):
         reader = threading.Thread(target=lambda: lines.extend(driver.stdout))
         reader.start()
         began = time.monotonic()
-        time.sleep(BEFORE)
+        time.sleep(way.before)
         before, first = memory(server.child.pid), time.monotonic()
-        used = work(asked, folder, server)
+        used = way.work(asked, folder, server)
         last = time.monotonic()
         time.sleep(BEHIND)
         driver.send_signal(signal.SIGTERM)
@@ -277,7 +338,7 @@ def one_run(asked, words, folder, work, paced):
     finally:
         server.end()
     spans = ((began + WARM, first), (first, last + BEHIND))
-    return [[latencies(lines, kind, *span) for kind in "ar"] for span in spans], last - first, [before, *used]
+    return Run(*([latencies(lines, kind, *span) for kind in "ar"] for span in spans), last - first, [before, *used])
 
 
 def at_parts(values):
@@ -286,48 +347,46 @@ def at_parts(values):
     return [ordered[int(len(ordered) * part)] for part in (0.5, 0.99, 0.999)]
 
 
-def pause_lines(here, there):
-    """A line for each kind, before and meanwhile: latencies here and of Redis, and the ratios, each the median of the
-    runs."""
+def pause_lines(runs, span):
+    """A line for each kind of request and each way, in a span: the latencies, those by Redis', and how many requests
+    were in a run, each the median of the runs."""
     def cells(rows, form):
         return " / ".join(f"{statistics.median(row):{form}}" for row in zip(*rows))
 
-    for span, when in enumerate(("before", "meanwhile")):
-        for kind, name in enumerate(("XADD", "XREADGROUP")):
-            ours, theirs = ([at_parts(run[0][span][kind]) for run in runs] for runs in (here, there))
+    for kind, name in enumerate(("XADD", "XREADGROUP")):
+        theirs = [at_parts(getattr(run, span)[kind]) for run in runs["Redis"]]
+        for way, ones in runs.items():
+            asked = [getattr(run, span)[kind] for run in ones]
+            if not all(asked):
+                continue
+            ours = [at_parts(values) for values in asked]
             by = [[one / max(other, 1) for one, other in zip(*pair)] for pair in zip(ours, theirs)]
-            counts = [statistics.median(len(run[0][span][kind]) for run in runs) for runs in (here, there)]
-            yield (f"| {name}, {when} | {cells(ours, ',.0f')} | {cells(theirs, ',.0f')} | {cells(by, '.2f')} "
-                   f"| {counts[0]:,.0f}, {counts[1]:,.0f} |")
+            yield (f"| {name}, {span}, {way} | {cells(ours, ',.0f')} | {cells(by, '.2f')} "
+                   f"| {statistics.median(map(len, asked)):,.0f} |")
 
 
-def median_memory(runs, place):
-    return f"{statistics.median(run[2][place] for run in runs) / 1e6:.0f}"
-
-
-def tell_memory(here, there):
-    took = [spread([run[1] for run in runs], ".1f") for runs in (here, there)]
-    ours, theirs = ([median_memory(runs, place) for place in range(3)] for runs in (here, there))
-    print(f"It took {took[0]} s here, {took[1]} of Redis. MB: the compaction {ours[1]}, the server before {ours[0]}, "
-          f"meanwhile {ours[2]}; the child of Redis {theirs[1]}, its server before {theirs[0]}, meanwhile {theirs[2]}",
-          flush=True)
+def tell_memory(runs):
+    for way, ones in runs.items():
+        first, other, meanwhile = (statistics.median(run.memory[place] for run in ones) / 1e6 for place in range(3))
+        print(f"By {way} it took {spread([run.took for run in ones], '.1f')} s. MB: what compacts {other:.0f}, the server "
+              f"before {first:.0f}, meanwhile {meanwhile:.0f}", flush=True)
 
 
 def tell_pauses(asked, paced):
     with filled(asked) as folders:
         for ours, theirs in (pair.split("/") for pair in asked.policies.split(",")):
-            here, there = [], []
+            them = ways(asked, ours, theirs)
+            runs = {name: [] for name in them}
             for _ in range(asked.runs):
-                with copied(asked, folders[0]) as folder:
-                    words = logged_words(asked.program, CONNECTIONS, folder, ours)
-                    here.append(one_run(asked, words, folder, compact, paced))
-                with copied(asked, folders[1]) as folder:
-                    there.append(one_run(asked, redis_words(folder, theirs), folder, rewrite, paced))
+                for name, way in them.items():
+                    with copied(asked, folders[way.folder]) as folder:
+                        wait_for_rest(asked)
+                        runs[name].append(one_run(asked, way, folder, paced))
             print(f"\n`--sync {ours}`, `appendfsync {theirs}`, {asked.rate:,} requests a second: latencies in µs in "
-                  "the middle, at 99 % and 99.9 %\n\n| Requests | Here | Redis | Here by Redis | How many in a run |\n"
-                  "|---|---|---|---|---|")
-            print("\n".join(pause_lines(here, there)))
-            tell_memory(here, there)
+                  "the middle, at 99 % and 99.9 %\n\n| Requests | µs | by Redis | How many in a run |\n|---|---|---|---|")
+            for span in ("before", "meanwhile"):
+                print("\n".join(pause_lines(runs, span)))
+            tell_memory(runs)
 
 
 # ---- restart

@@ -38,10 +38,11 @@ def program_words(program, connections, *log):
     return [program, "run", "--port", "PORT", "--workers", str(connections + 8), *log]
 
 
-def logged_words(program, connections, folder, policy):
-    """The words of a server with a log that nobody compacts, as nobody rewrites that of Redis."""
+def logged_words(program, connections, folder, policy, compact="never"):
+    """The words of a server with a log that nobody compacts if nothing else is given, as nobody rewrites that of
+    Redis."""
     return program_words(program, connections, "--log", os.path.join(folder, "log"), "--sync", policy,
-                         "--compact", "never")
+                         "--compact", compact)
 
 
 def redis_words(folder, policy):
