@@ -1,5 +1,5 @@
 //! XACK.
-ghost use Rattle.xs_keys.specs.Step.{StepAtAnyTime};
+ghost use Rattle.xs_keys.specs.Step.{AppliedAtAnyTime};
 
 use crate::keys::Keys;
 use xs_bytes::{Bytes, U63};
@@ -9,7 +9,7 @@ use xs_stream::Id;
 
 /// Takes these ids out of what is pending in a group, and says how many were.
 pub fn acknowledge(keys: &mut Keys, key: &Bytes, group: &Bytes, ids: &Operands<Id>) -> Reply
-    ensures { StepAtAnyTime keys.old (Command.Ack key.now group.now ids.now) result keys.new }
+    ensures { AppliedAtAnyTime keys.old (Command.Ack key.now group.now ids.now) result keys.new }
 {
     let Some(slot) = keys.slots.get_mut(key) else {
         return Reply::Int(U63::new(0));

@@ -11,7 +11,7 @@ ghost use Rattle.xs_resp.specs.ReplyItems.{tokens_of};
 ghost use Rattle.xs_keys.specs.ReplyParts.{array_or_null, entry_reply, stream_part};
 ghost use Rattle.xs_keys.specs.Reply.{parts};
 ghost use Rattle.xs_keys.specs.Reading.{ids_shown, part_of, IsShown, IsServedAt, IsMadeAt, AreMade, at_most_one};
-ghost use Rattle.xs_keys.specs.Step.{Step};
+ghost use Rattle.xs_keys.specs.Step.{Attempt};
 ghost use Rattle.xs_keys.specs.Waiting.{finds_none_in, finds_nothing};
 ghost use Rattle.xs_group.specs.GroupState.{new_ids};
 
@@ -223,16 +223,18 @@ fn all_there(keys: &Keys, read: &ReadGroupCommand) -> bool
 }
 
 /// XREADGROUP.
-pub fn read(keys: &mut Keys, alloc: Global, now: Moment, read: &ReadGroupCommand) -> Reply
-    ensures { Step keys.old now (Command.ReadGroup read.now) result keys.new }
+pub fn read(
+    keys: &mut Keys,
+    alloc: Global,
+    now: Moment,
+    read: &ReadGroupCommand,
+) -> Result<Reply, AllocError>
+    ensures { Attempt keys.old now (Command.ReadGroup read.now) result keys.new }
 {
     if !all_there(keys, read) {
-        return Reply::Error(Fault::NoGroup);
+        return Ok(Reply::Error(Fault::NoGroup));
     }
-    match serve_all(keys, alloc, now, read) {
-        Ok(reply) => reply,
-        Err(AllocError) => Reply::Error(Fault::Memory),
-    }
+    serve_all(keys, alloc, now, read)
 }
 
 /// One, unless the limit is zero: the first new entry says whether a read delivers any.
