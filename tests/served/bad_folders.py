@@ -147,8 +147,9 @@ def in_use(program):
 
 
 def in_use_before_it_is_read(program):
-    """A start takes the lock before it reads: what it had read before would be too little once the other server has gone
-    on and ended."""
+    """A start takes the lock before it reads: what it had read before would be too little once the other server has
+    gone on and ended. Refuses: the lock of a folder is taken after its logs are read, or isn't held if there are
+    any."""
     records = [logs.record(1_700_000_000_000 + place, [b"XADD", b"s", b"%d-0" % place, b"f", b"v" * 60_000])
                for place in range(1, 41)]
     with new_folder() as folder, tempfile.TemporaryDirectory() as above:

@@ -55,7 +55,8 @@ def moment(stream):
 
 def clock_is_set(program):
     """The wall clock is set four years ahead, back, and an hour behind. The server's time gains a tenth on the true one
-    while it is ahead, never goes back and never stands still: what was handed out meanwhile is taken over in time."""
+    while it is ahead, never goes back and never stands still: what was handed out meanwhile is taken over in time.
+    Refuses: the server's time is that of the wall clock."""
     with running_with_a_clock(program) as (server, set_ahead), raw(server.port) as stream:
         make(stream, "jobs")
         add(stream, "jobs", 1)

@@ -99,8 +99,8 @@ def is_behind(program, folder, events, questions=QUESTIONS):
 
 def contents_at_random(program):
     """Contents at random, with names of zero bytes and great ones, greatest counts and emptied streams: behind a
-    compaction, and behind another one of what was noted since, a start has what all events left, and goes on with it for
-    1,000 commands."""
+    compaction, and behind another one of what was noted since, a start has what all events left, and goes on with it
+    for 1,000 commands. Refuses: a compaction leaves a closed log out, or reads one twice."""
     for seed in range(6):
         events = events_at_random(program, f"compact {seed}", 300)
         cuts = sorted(random.Random(seed).sample(range(1, len(events)), 3))
@@ -120,7 +120,8 @@ def contents_at_random(program):
 
 
 def beside_a_server(program):
-    """While a server goes on with the last log, the closed ones are compacted; behind a kill all is there."""
+    """While a server goes on with the last log, the closed ones are compacted; behind a kill all is there. Refuses: a
+    compaction leaves a closed log out, or reads one twice."""
     events = events_at_random(program, "beside", 100)
     cuts = [len(events) // 3, len(events) // 2]
     with new_folder() as folder:
@@ -139,7 +140,8 @@ def beside_a_server(program):
 
 
 def what_a_crash_leaves(program):
-    """Whatever a crash leaves of the removals, and of a snapshot that isn't whole, a start has the same."""
+    """Whatever a crash leaves of the removals, and of a snapshot that isn't whole, a start has the same. Refuses: an
+    incomplete snapshot stays after a start."""
     events = events_at_random(program, "removals", 60)
     whole = in_logs(events, [10, 20, 40])
     with new_folder() as folder:
@@ -180,7 +182,8 @@ def backed_up(program):
 
 
 def killed(program):
-    """Compactions are killed at any moment; each time a start has all."""
+    """Compactions are killed at any moment; each time a start has all. Refuses: a compaction removes logs before it has
+    written."""
     count, aside = 12_000, random.Random(7)
     events = [(BEGAN + place, [b"XADD", b"s", b"%d-0" % place, b"f", b"v" * 200]) for place in range(1, count + 1)]
     cut = count - 100
@@ -211,7 +214,8 @@ def killed(program):
 
 def refused(program):
     """A compaction is refused, and changes nothing: if another one runs, there is no room, a log is damaged or missing.
-    A start is refused whose snapshot is damaged, or whose log behind it is missing."""
+    A start is refused whose snapshot is damaged, or whose log behind it is missing. Refuses: a compaction holds no
+    lock."""
     events = events_at_random(program, "refused", 60)
     whole = in_logs(events, [20, 40])
     with new_folder() as folder:
@@ -258,7 +262,7 @@ def without_memory(program):
 
 
 def waits_for_its_end(program):
-    """A start waits until nobody compacts the folder."""
+    """A start waits until nobody compacts the folder. Refuses: a start doesn't wait for a compaction."""
     with new_folder() as folder:
         logs.write_logs(folder, logs.header(1))
         with open(os.path.join(folder, "compacting"), "ab") as lock:

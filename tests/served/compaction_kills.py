@@ -113,7 +113,8 @@ def all_is_there(program, folder, queue):
 
 def killed_beside_compactions(program, kills):
     """The server is killed so often, and compactions of its folder at other moments: nothing that was answered is gone
-    or comes back."""
+    or comes back. Refuses: a compaction takes the last log for closed; it numbers the snapshot one too low; it holds no
+    lock; it removes logs before it has written; a start doesn't wait for it."""
     made, port, queue = random.Random(kills), served.free_port(), Queue()
     with new_folder() as folder, Load(queue, port) as load:
         with logged(program, folder, port=port) as server, Connection(port) as one:

@@ -129,8 +129,9 @@ def adding(server):
 
 
 def while_it_serves(program):
-    """A server compacts its folder each time that it is due, while clients add. It says so on standard error and in INFO,
-    and what a kill leaves has all."""
+    """A server compacts its folder each time that it is due, while clients add. It says so on standard error and in
+    INFO, and what a kill leaves has all. Refuses: nobody compacts while it serves; INFO reports another snapshot than
+    the last one."""
     with new_folder() as folder:
         with logged(program, folder, "no") as server:
             heard = Heard(server.child, folder)
@@ -151,7 +152,8 @@ def while_it_serves(program):
 
 
 def gives_its_memory_back(program):
-    """The memory that a compaction takes in a server goes back to the system."""
+    """The memory that a compaction takes in a server goes back to the system. Refuses: compactions run in a thread that
+    stays."""
     entry = logs.record(1_700_000_000_000, [b"XADD", b"s", b"*", b"f", b"v" * 1000])
     with new_folder() as folder:
         logs.write_logs(folder, logs.header(1) + entry * 100_000, logs.header(2))
@@ -163,7 +165,8 @@ def gives_its_memory_back(program):
 
 
 def killed_within(program):
-    """INFO tells that a compaction runs, and clients are served meanwhile. What a kill leaves then has all."""
+    """INFO tells that a compaction runs, and clients are served meanwhile. What a kill leaves then has all. Refuses:
+    INFO doesn't report that a compaction runs."""
     with new_folder() as folder, tempfile.TemporaryDirectory() as above:
         environment = {"LD_PRELOAD": clock_steps.library_of("slow_reads.c", above)}
         with logged(program, folder, "no", environment=environment) as server:
@@ -181,8 +184,10 @@ def killed_within(program):
 
 
 def not_while_it_serves(program):
-    """With `--compact never` nobody compacts a folder, though it is due; with `--compact start` the start does, before it
-    reads it, and nobody later. Without either word a server leaves a folder alone that isn't due."""
+    """With `--compact never` nobody compacts a folder, though it is due; with `--compact start` the start does, before
+    it reads it, and nobody later. Without either word a server leaves a folder alone that isn't due. Refuses: the
+    server compacts with `--compact never`; a start compacts a folder that isn't due; with `--compact start` the server
+    compacts later too."""
     def never(folder):
         write_due(folder)
         with logged(program, folder, compact="never") as server:
@@ -222,8 +227,9 @@ def not_while_it_serves(program):
 
 
 def how_much_is_due(program):
-    """A compaction is due if the closed logs have more bytes than the snapshot, and more than 64 MiB. Files of zeros have
-    these sizes: one that is due is refused, since they are damaged."""
+    """A compaction is due if the closed logs have more bytes than the snapshot, and more than 64 MiB. Files of zeros
+    have these sizes: one that is due is refused, since they are damaged. Refuses: a compaction is due at 64 MiB,
+    however large the snapshot is; logs below the snapshot are counted."""
     damaged = "not compacted: snapshot-2 is damaged at byte 0"
     least = logs.FULL
 
@@ -247,7 +253,8 @@ def how_much_is_due(program):
 
 def beside_it(program):
     """A process beside the server compacts each time that it is due, up to a signal; the server leaves that to it, and
-    serves, as their units have it. A folder that isn't there is refused."""
+    serves, as their units have it. A folder that isn't there is refused. Refuses: `compact --watch` goes on without a
+    folder; it ends with its first compaction."""
     with new_folder() as folder:
         os.mkdir(folder)
         port = served.free_port()
@@ -284,8 +291,9 @@ def is_tried_again(folder, heard, server, text):
 
 
 def refused_while_another_runs(program):
-    """While another one compacts, a server's compaction is refused: that is said once, and it is tried again once another
-    log is closed."""
+    """While another one compacts, a server's compaction is refused: that is said once, and it is tried again once
+    another log is closed. Refuses: a refused compaction is tried again each second, or never; INFO doesn't report that
+    one was refused."""
     text = "not compacted: it is being compacted"
     with new_folder() as folder, logged(program, folder, "no") as server:
         heard = Heard(server.child, folder)
@@ -298,7 +306,8 @@ def refused_while_another_runs(program):
 
 
 def refused_without_memory(program):
-    """So it is if the server's memory has no room for a second state."""
+    """So it is if the server's memory has no room for a second state. Refuses: a refused compaction is tried again each
+    second, or never."""
     text = "not compacted: log-1 out of memory"
     count, entry = 160, logs.record(1_700_000_000_000, [b"XADD", b"s", b"*", b"f", b"v" * MEGABYTE])
     with new_folder() as folder:
@@ -313,7 +322,8 @@ def refused_without_memory(program):
 
 
 def refused_without_room(program):
-    """So is the compaction of a process beside a server if the disk has no room."""
+    """So is the compaction of a process beside a server if the disk has no room. Refuses: a refused compaction is tried
+    again each second, or never; what it had begun stays."""
     with new_folder() as folder:
         write_due(folder)
         with watched(program, folder, served.with_limits({resource.RLIMIT_FSIZE: 500})) as heard:
@@ -330,7 +340,8 @@ def refused_without_room(program):
 
 
 def not_listed(program):
-    """If a folder can't be listed, that is said once, also in INFO as long as it is so."""
+    """If a folder can't be listed, that is said once, also in INFO as long as it is so. Refuses: that a folder can't be
+    listed is reported each second, or in INFO for good."""
     with new_folder() as folder, logged(program, folder) as server:
         heard = Heard(server.child, folder)
         os.rename(folder, folder + " aside")
@@ -344,7 +355,8 @@ def not_listed(program):
 
 
 def wrong_words(program):
-    """Words that ask for compactions and have a wrong value, or no log, end it with status 2, and are named."""
+    """Words that ask for compactions and have a wrong value, or no log, end it with status 2, and are named. Refuses:
+    `--compact` needs no log."""
     with new_folder() as folder:
         run = [*served.words_of_run(program, served.free_port(), 2)]
         for words, name in (([*run, "--compact", "never"], "--compact"),

@@ -11,6 +11,9 @@ nobody asks for, folder_crashes.py stops the machine at each change of a folder,
 kept_log.py starts it on a log that an earlier program made. It needs Python's standard library, and a C compiler for
 the libraries that are loaded into it, which is installed if it isn't there. What is at random has a fixed seed. The
 last line is 'N passed, M failed'; the status is 1 if M > 0.
+
+Refused were also programs with one of these: no sync; a sync or write whose error is ignored; no lock; a torn end that
+isn't cut; a log read short; a sync for each reply; a buffered write.
 """
 import argparse
 import os
@@ -326,7 +329,8 @@ def what_a_log_has(program):
 
 def two_logs(program):
     """A log of 64 MiB is closed, and the next one begun: each is kept before the next is there. All that both have is
-    read; if there is no memory for it the start is refused, and nothing is changed."""
+    read; if there is no memory for it the start is refused, and nothing is changed. Refuses: the next log is made
+    before the one before it is synced."""
     value, count = b"v" * 1_000_000, 70
     with syncs.counted() as told, new_folder() as folder:
         with (logged(program, folder, "no", compact="never", environment=told.environment) as server,
@@ -355,7 +359,8 @@ def two_logs(program):
 
 
 def many_logs(program):
-    """A folder may have more logs than the server may have descriptors: each is open only while it is read."""
+    """A folder may have more logs than the server may have descriptors: each is open only while it is read. Refuses:
+    all logs of a folder are open at once."""
     with new_folder() as folder:
         records = [logs.record(1_700_000_000_000 + place, [b"XADD", b"s", b"%d-0" % place, b"f", b"v"])
                    for place in range(1, 81)]

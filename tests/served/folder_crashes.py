@@ -159,7 +159,9 @@ def folder_compacted_before(program, folder, whole):
 
 def every_crash_point_of_a_compaction(program):
     """The machine stops at any moment of a compaction; or one is killed at any moment, and the machine stops while the
-    folder is compacted again, or opened and then compacted."""
+    folder is compacted again, or opened and then compacted. Refuses: a compaction renames the snapshot before it is
+    synced, or without a sync; it removes files before that name is synced; it takes the last log for closed; it numbers
+    the snapshot one too low; it is killed before the name is synced, and the next one removes files all the same."""
     made, left = events_at_random(program, "crashes", 90), Left("crashes")
     begins = parts(made, 5)
     whole = in_logs(made, begins)
@@ -201,7 +203,9 @@ class Adder:
 
 
 def every_crash_point_beside_a_server(program):
-    """The machine stops at any moment of a compaction, while a server goes on with the last log."""
+    """The machine stops at any moment of a compaction, while a server goes on with the last log. Refuses: a compaction
+    renames the snapshot before it is synced, or without a sync; it removes files before that name is synced; it takes
+    the last log for closed; it numbers the snapshot one too low."""
     made, left = events_at_random(program, "crashes beside", 60), Left("crashes beside")
     begins = parts(made, 3)
     with new_folder() as folder, tempfile.TemporaryDirectory() as above:
@@ -244,7 +248,8 @@ def follow_closing(program, first, journal, sync):
 
 def every_crash_point_of_a_closing(program):
     """The machine stops at any moment while a log is full, and the next one is begun. Without syncs additions may be
-    lost, but the log is whole once the next one is there."""
+    lost, but the log is whole once the next one is there. Refuses: the name of the next log isn't synced; with `--sync
+    no` a log isn't synced before the next one exists."""
     with new_folder() as folder, tempfile.TemporaryDirectory() as above:
         with logged(program, folder) as server, Connection(server.port) as one:
             one.ask("XADD", "great", "1-0", "f", b"v" * (logs.FULL - 240))

@@ -142,7 +142,8 @@ def beside_a_client(port, text):
 
 def tells_what_was_answered(program):
     """The keys that INFO tells are those behind each request before it, sent in one piece, whatever sections are named,
-    while others keep the keeper busy."""
+    while others keep the keeper busy. Refuses: the keys in INFO are those of the keeper's figures; with several
+    sections INFO isn't answered behind the requests before it."""
     with running(program, workers=2) as server, raw(server.port) as stream, stream.makefile("rb") as replies:
         say(stream, "XADD busy 1-1 f v", bulk("1-1"))
         with beside_a_client(server.port, "XADD busy * f v"):
@@ -156,7 +157,7 @@ def tells_what_was_answered(program):
 
 def tells_the_memory_behind_additions(program):
     """`used_memory` has each addition before INFO, sent in one piece, whether the keeper rests between them or answers
-    another client without an end."""
+    another client without an end. Refuses: INFO doesn't wait until the keeper has published."""
     size = 100_000
     with running(program, workers=2) as server, raw(server.port) as stream, stream.makefile("rb") as replies:
         def told_behind(count):

@@ -38,7 +38,8 @@ def failed_log(server, record=r"\d+"):
 
 def answers_wait_for_the_sync(program):
     """While a sync lasts nothing is answered that it is to keep: not the addition, and no read of another client that
-    would tell of it. It is so without `--sync` too. With `--sync no` an addition waits for no sync."""
+    would tell of it. It is so without `--sync` too. With `--sync no` an addition waits for no sync. Refuses: without
+    `--sync` a log is synced each second."""
     with syncs.counted() as told, new_folder() as folder:
         with logged(program, folder, None, environment=told.environment) as server, Clients(server.port) as clients:
             one, other = clients.new(), clients.new()
@@ -64,7 +65,8 @@ def answers_wait_for_the_sync(program):
 
 
 def replies_before_a_sync(program):
-    """What stands before a read in the same piece is answered at once, though the sync of the read lasts."""
+    """What stands before a read in the same piece is answered at once, though the sync of the read lasts. Refuses:
+    replies before an addition are sent 200 ms later, while its sync lasts."""
     with syncs.counted() as told, new_folder() as folder:
         with logged(program, folder, environment=told.environment) as server, raw(server.port) as one:
             make(one, "s")
@@ -78,8 +80,8 @@ def replies_before_a_sync(program):
 
 
 def syncs_are_shared(program):
-    """What 16 clients add while a sync lasts, 20 entries each, is kept by one more, or two if some of it comes late, and
-    not by one for each."""
+    """What 16 clients add while a sync lasts, 20 entries each, is kept by one more, or two if some of it comes late,
+    and not by one for each. Refuses: with `--sync always` 32 calls at most share a sync."""
     with syncs.counted() as told, new_folder() as folder:
         with (logged(program, folder, workers=20, environment=told.environment) as server,
               Clients(server.port) as clients):
@@ -102,7 +104,8 @@ def syncs_are_shared(program):
 
 def syncs_are_shared_behind_a_refusal(program):
     """While memory is refused few requests of a connection are asked ahead; behind that as many as before, so that 320
-    additions that come in one piece share a few syncs."""
+    additions that come in one piece share a few syncs. Refuses: after a refusal of memory a connection's requests are
+    asked one by one for good."""
     with syncs.counted() as told, new_folder() as folder:
         with (logged(program, folder, environment=told.environment, bound="2m") as server, raw(server.port) as one,
               one.makefile("rb") as replies):
@@ -118,7 +121,8 @@ def syncs_are_shared_behind_a_refusal(program):
 
 
 def writes_are_shared(program):
-    """With `--sync no` 3,200 additions that come in one piece share the writes to the log, unless the machine is busy."""
+    """With `--sync no` 3,200 additions that come in one piece share the writes to the log, unless the machine is busy.
+    Refuses: with `--sync no` each call is a write of its own."""
     with new_folder() as folder:
         with logged(program, folder, "no") as server, raw(server.port) as one:
             tries = []
@@ -142,7 +146,8 @@ def is_kept_in_time(told, path):
 
 def syncs_each_second(program):
     """With `--sync second` an addition waits for no sync, and is kept a few seconds later, though nothing more comes.
-    While nothing comes nothing is synced, and what comes within a second shares a sync."""
+    While nothing comes nothing is synced, and what comes within a second shares a sync. Refuses: what was written
+    during a sync counts as synced; with `--sync second` a log is synced every four seconds."""
     with syncs.counted() as told, new_folder() as folder:
         with logged(program, folder, "second", environment=told.environment) as server, raw(server.port) as one:
             with told.held():
@@ -167,7 +172,7 @@ def syncs_each_second(program):
 
 def is_synced_once_it_can_be_opened(program):
     """With `--sync second`, while there is no descriptor to open the log by, it isn't kept; it is once there is one,
-    though nothing more comes."""
+    though nothing more comes. Refuses: the syncing thread skips a log that can't be opened now."""
     with syncs.counted() as told, new_folder() as folder:
         with logged(program, folder, "second", environment=told.environment) as server, raw(server.port) as one:
             say(one, "PING", PONG.decode())
@@ -220,7 +225,8 @@ def headers_are_kept(program):
 
 
 def names_are_kept(program):
-    """The names of a new folder and of its first log are kept before the server listens."""
+    """The names of a new folder and of its first log are kept before the server listens. Refuses: the name of a log, or
+    of its folder, isn't synced; the name of a new folder isn't synced if it has no path."""
     for sync in ("always", "no"):
         with syncs.counted() as told, new_folder() as folder:
             with logged(program, folder, sync, environment=told.environment):
@@ -235,7 +241,8 @@ def names_are_kept(program):
 
 
 def the_next_log_is_kept(program):
-    """With `--sync second` the name of the next log is kept, and what is added to it, as of the first."""
+    """With `--sync second` the name of the next log is kept, and what is added to it, as of the first. Refuses: the
+    name of a log isn't synced; the syncing thread doesn't learn of the next log."""
     value = b"v" * 1_000_000
     with syncs.counted() as told, new_folder() as folder:
         with logged(program, folder, "no") as server, Connection(server.port) as one:
@@ -252,7 +259,7 @@ def the_next_log_is_kept(program):
 
 def a_sync_fails(program):
     """If a sync fails its addition isn't answered, nobody is served any more, and it ends. What was answered is there
-    at the next start."""
+    at the next start. Refuses: the line of a failed log names the record before."""
     with syncs.counted() as told, new_folder() as folder:
         with logged(program, folder, environment=told.environment) as server, Clients(server.port) as clients:
             one = clients.new()
@@ -295,7 +302,7 @@ def a_sync_fails_within_a_pipeline(program):
 
 def a_sync_of_a_closed_log_fails(program):
     """With `--sync no` a log that is full is synced before the next one is begun. If that fails it ends; what was
-    answered is there at the next start."""
+    answered is there at the next start. Refuses: a failed sync of a closed log is ignored."""
     value = b"v" * 1_000_000
     with syncs.counted() as told, new_folder() as folder:
         with logged(program, folder, "no", environment=told.environment) as server, Connection(server.port) as one:

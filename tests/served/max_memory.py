@@ -96,7 +96,8 @@ def makes_room(program):
 
 
 def trims_make_room_of_great_ones(program):
-    """A trim that leaves nothing of a great entry makes room for as much, as a deletion does."""
+    """A trim that leaves nothing of a great entry makes room for as much, as a deletion does. Refuses: a trim that
+    leaves nothing of a block keeps its memory."""
     for removal in ("XDEL q 1-0", "XTRIM q MAXLEN 0", "XTRIM q MINID 2-0"):
         with running(program, "--max-memory", "8m") as server, raw(server.port) as one:
             say(one, f"XADD q 1-0 f {'v' * 6_000_000}", bulk("1-0"))
@@ -182,7 +183,8 @@ def ends_of_groups(taken):
 
 def counts_behind_removals(program):
     """The same when most of what was added is gone, and additions have filled the room that it left, but for entries
-    that are deleted here and there: the pieces that blocks give back are too small for new blocks."""
+    that are deleted here and there: the pieces that blocks give back are too small for new blocks. Refuses: maps keep
+    the room of removed rows."""
     works = {f"{removal.__name__} of {shape}": (entries_of(shape), removal, most)
              for shape in SHAPES for removal, most in ((trim, 1 + A_TENTH), (deletions, HERE_AND_THERE))}
     works |= {f"{removal.__name__} of {rows} rows": (groups_of(rows), removal, most)

@@ -104,7 +104,8 @@ def one_after_the_other(program):
 
 
 def lines_of_a_file(program):
-    """The password is the first line of its file, of any bytes, without CR and LF."""
+    """The password is the first line of its file, of any bytes, without CR and LF. Refuses: the CR of a password's line
+    is part of it."""
     for content, password in ((b"secret", b"secret"), (b"a b\r\nother\n", b"a b"), (b"\x00\xff\n\n", b"\x00\xff"),
                               (b"x" * 5000 + b"\n", b"x" * 5000)):
         with guarded(program, content=content, workers=1) as server, raw(server.port) as stream:
@@ -131,7 +132,8 @@ def run(program, *options):
 
 
 def files_of_no_password(program):
-    """Without a password in its file the program ends with 1 and says why; it says too if others may read it."""
+    """Without a password in its file the program ends with 1 and says why; it says too if others may read it. Refuses:
+    the CR of a password's line is part of it."""
     with (password_file(b"") as empty, password_file(b"\r\nsecret\n") as late,
           password_file(b"x" * 16_385 + b"\n") as long, tempfile.TemporaryDirectory() as folder):
         none = os.path.join(folder, "none")
@@ -150,7 +152,8 @@ def files_of_no_password(program):
 
 
 def others_may_reach_it(program):
-    """With a password an address beyond loopback needs no `--open`."""
+    """With a password an address beyond loopback needs no `--open`. Refuses: an address beyond loopback needs `--open`
+    with a password too."""
     with guarded(program, workers=1, host="0.0.0.0") as server, raw(server.port) as stream:
         say(stream, "PING", NO_AUTH)
 
@@ -226,8 +229,9 @@ def is_late(server, place):
 
 
 def have_ten_seconds(program):
-    """A client that has given no password after ten seconds is closed, whatever it sends, and also behind a RESET; another
-    one stays."""
+    """A client that has given no password after ten seconds is closed, whatever it sends, and also behind a RESET;
+    another one stays. Refuses: a client that has given the password is closed all the same; the time that a read may
+    wait isn't set on its socket."""
     with guarded(program, workers=5) as server:
         together(5, lambda place: is_late(server, place))
         # They have left their workers to others.
@@ -236,7 +240,8 @@ def have_ten_seconds(program):
 
 
 def idle_before_the_password(program):
-    """`--idle` is kept before the password and afterwards."""
+    """`--idle` is kept before the password and afterwards. Refuses: the time that a read may wait isn't set on its
+    socket."""
     with guarded(program, "--idle", "1", workers=2) as server, raw(server.port) as stranger, raw(server.port) as stream:
         began = time.monotonic()
         say(stream, "AUTH secret", OK)

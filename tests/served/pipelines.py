@@ -8,6 +8,12 @@ all the same: replies come in order, whole, each to its own request and client, 
 behind an end. Each case has a server of its own, of `serve`, of `run` and with a log. Replies are those of the Redis
 pages of the commands and of the RESP specification; docs/COMMANDS.md has the texts of errors. It needs Python's
 standard library alone. The last line is 'N passed, M failed'; the status is 1 if M > 0.
+
+Refused were also programs with one of these: a reply in another one's place; a request executed twice, or elsewhere;
+something executed behind a QUIT, a protocol error or a waiting read; half a request executed, or the last whole one
+unanswered; replies before a wait held back; a reply to the next client; requests of a gone client executed again; a
+reply lost for a client that reads late; replies held without a bound; a read whose reply is dropped, or is another
+consumer's; an acknowledgement that does nothing; a consumer's request refused as the 34th of a burst.
 """
 import argparse
 import contextlib
@@ -327,7 +333,8 @@ def waits_in_the_middle(server):
 
 
 def waits_in_vain_in_the_middle(server):
-    """The same with a wait whose time is over."""
+    """The same with a wait whose time is over. Refuses: replies before an addition are sent 200 ms later, while its
+    sync lasts."""
     with Clients(server.port) as clients:
         one = clients.new()
         for behind in (1, 15, 40):
@@ -367,7 +374,8 @@ def waits_twice(server):
 
 def keeps_its_connection(server):
     """Whoever acknowledges and waits in one piece is answered both, each time, at whatever moment an entry comes while
-    the first reply is written."""
+    the first reply is written. Refuses: a waiting read is asked before earlier answers are written, and its client is
+    checked meanwhile."""
     made = random.Random(7)
     with Clients(server.port) as clients:
         one, stream = clients.new(), clients.new()

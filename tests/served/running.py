@@ -9,6 +9,10 @@ given a password (passwords.py), MULTI and EXEC (transactions.py), INFO (informa
 (clock_steps.py), the options. Cases that mostly wait are tried together. It needs Python's standard library, and a C
 compiler for the clock, which is installed if it isn't there. The last line is 'N passed, M failed'; the status is 1 if
 M > 0.
+
+Refused were also programs in which: the youngest reader is served first; a change reaches no reader; only the first key
+is watched; a reply is an empty array; a wait is too short, or never ends; replies before a wait are held back; an end
+isn't noticed; a connection is refused at once, never, or although it was executed; workers are lost.
 """
 import contextlib
 import os
@@ -67,7 +71,8 @@ def is_refused(stream, began, least, most):
 
 def forty_too_many(program):
     """With 4 workers that are busy, two of them with readers that wait, 40 more connections are refused after a second,
-    and nothing that they sent is executed. When one ends, a new one is served."""
+    and nothing that they sent is executed. When one ends, a new one is served. Refuses: connections wait for a worker
+    for 2.5 seconds."""
     with running(program, workers=4) as server, Clients(server.port) as clients:
         one, idle = clients.new(), clients.new()
         make(one, "busy")
@@ -88,7 +93,8 @@ def forty_too_many(program):
 
 def sends_on_though_it_is_told(program):
     """One that is told that there are too many, and sends on a little, isn't reset meanwhile: some systems would drop
-    what it was told. The machine may be busy, and its time over; so one of five tries counts."""
+    what it was told. The machine may be busy, and its time over; so one of five tries counts. Refuses: a client that is
+    told to leave is closed before all that it sends is read."""
     def is_left_alone(stream):
         stream.settimeout(3)
         select.select([stream], [], [], 3)
@@ -155,8 +161,9 @@ def in_their_order(program):
 
 
 def sends_while_it_waits(program):
-    """What a client sends while its read waits is held up to a bound: then it isn't taken from the system any more. None
-    of it is lost."""
+    """What a client sends while its read waits is held up to a bound: then it isn't taken from the system any more.
+    None of it is lost. Refuses: what a client sends while its read waits is held without a bound; what is read ahead
+    beyond 64 KiB is lost."""
     most = 40 * MEGABYTE
     with running(program, workers=2) as server, Clients(server.port) as clients:
         one, sent = clients.new(), 0
@@ -178,7 +185,8 @@ def sends_while_it_waits(program):
 
 def more_than_may_wait(program):
     """More connections come than may wait for the one worker, for which there are too few descriptors: each is told so,
-    and nothing that it sent is executed."""
+    and nothing that it sent is executed. Refuses: a connection that finds no room to wait is closed silently; 1,024
+    connections may wait, however few descriptors there are."""
     with running(program, workers=1, limits={resource.RLIMIT_NOFILE: 100}) as server, Clients(server.port) as clients:
         one = clients.new()
         say(one, "PING", PONG.decode())
@@ -206,8 +214,8 @@ def may_have(count):
 
 
 def a_thousand(program):
-    """1,024 connections are served at once. The next is refused, and what it sent isn't executed; when one ends, another
-    one is served."""
+    """1,024 connections are served at once. The next is refused, and what it sent isn't executed; when one ends,
+    another one is served. Refuses: the memory of all 1,024 workers is made at the start."""
     if not may_have(3000):
         return
     with running(program, workers=MOST_WORKERS) as server, Clients(server.port) as clients:
@@ -228,7 +236,8 @@ def a_thousand(program):
 
 
 def busy_among_idle(program):
-    """64 connections that are busy among 960 that are idle: all are answered, and so are the idle ones in the end."""
+    """64 connections that are busy among 960 that are idle: all are answered, and so are the idle ones in the end.
+    Refuses: a lane at rest isn't looked at, though its client gives notice."""
     if not may_have(3000):
         return
     with running(program, workers=MOST_WORKERS) as server, Clients(server.port) as clients:
@@ -275,7 +284,7 @@ def a_thousand_wait(program):
 
 @timed
 def without_delay(program):
-    """A small reply behind another one comes at once, as under `serve`."""
+    """A small reply behind another one comes at once, as under `serve`. Refuses: Nagle's delay stays on under `run`."""
     with running(program) as server:
         serves.without_delay(server)
 
@@ -301,7 +310,8 @@ def time_of_bursts(server, stream):
 
 @timed
 def idle_ones_cost_little(program):
-    """Requests cost about as much beside 1,000 connections that are idle as on a server of four workers."""
+    """Requests cost about as much beside 1,000 connections that are idle as on a server of four workers. Refuses: no
+    lane is ever at rest."""
     if not may_have(3000):
         return
     with running(program) as server, raw(server.port) as one:
@@ -316,7 +326,8 @@ def idle_ones_cost_little(program):
 
 
 def pieces_of_a_pipeline(program):
-    """The replies to 500 requests that come in one piece come in a few pieces, not one by one."""
+    """The replies to 500 requests that come in one piece come in a few pieces, not one by one. Refuses: each reply is
+    sent separately."""
     with running(program) as server, raw(server.port) as one:
         one.sendall(PING * 500)
         comes(one, PONG.decode() * 500)
@@ -328,7 +339,8 @@ def pieces_of_a_pipeline(program):
 
 @timed
 def readers_cost_little(program):
-    """An addition costs little though 500 readers wait for others: of the same group, or of other keys."""
+    """An addition costs little though 500 readers wait for others: of the same group, or of other keys. Refuses: all
+    keys are alike to waiting readers; one that finds nothing doesn't spare those of its key and group."""
     if not may_have(3000):
         return
     with running(program, workers=MOST_WORKERS) as server, Clients(server.port) as clients:
@@ -365,7 +377,8 @@ def readers_cost_little(program):
 
 @timed
 def pauses_cost_little(program):
-    """Requests that come a few milliseconds apart take little processor time: nobody looks for the next one for long."""
+    """Requests that come a few milliseconds apart take little processor time: nobody looks for the next one for long.
+    Refuses: a side looks 5,000 times before it parks; calls are always taken to follow fast."""
     with running(program) as server, raw(server.port) as one:
         def pause_and_ask(_):
             time.sleep(0.003)
@@ -379,7 +392,8 @@ def pauses_cost_little(program):
 @timed
 def fast_ones_behind_pauses_wake_few(program):
     """Requests that follow fast behind others with pauses are served as such: the threads don't go to sleep at each. A
-    worker does so where it waits for the next request, once a request."""
+    worker does so where it waits for the next request, once a request. Refuses: once calls have been slow they are
+    never taken to follow fast again."""
     with running(program) as server, raw(server.port) as one:
         for _ in range(20):
             time.sleep(0.01)
@@ -396,7 +410,8 @@ def fast_ones_behind_pauses_wake_few(program):
 
 @timed
 def keys_cost_little(program):
-    """A request costs little more at the last of 1,000 keys than at the only one."""
+    """A request costs little more at the last of 1,000 keys than at the only one. Refuses: a map has up to 1,024
+    entries in its vector."""
     with running(program) as server, raw(server.port) as one:
         def at(key):
             one.sendall(asking(f"XLEN {key}") * 500)
@@ -416,7 +431,8 @@ def keys_cost_little(program):
 
 @timed
 def pieces_of_a_request_cost_little(program):
-    """A request of 50,000 words that comes in 1,000 pieces costs little: what was read isn't read again with each."""
+    """A request of 50,000 words that comes in 1,000 pieces costs little: what was read isn't read again with each.
+    Refuses: a partial request is parsed from its beginning with each piece."""
     with running(program) as server, raw(server.port) as one:
         one.setsockopt(socket.IPPROTO_TCP, socket.TCP_NODELAY, 1)
         asked, before = asking("XDEL s" + " 1-1" * 50_000), server.processor_time()
@@ -455,7 +471,9 @@ def ask_or_be_refused(stream, text):
 
 def few_descriptors(program):
     """If no descriptor is left, connections are told at once that there are too many, and nothing that they sent is
-    executed; those that are open are served, and nothing spins. When the limit is raised it serves again."""
+    executed; those that are open are served, and nothing spins. When the limit is raised it serves again. Refuses: a
+    failed `accept` is followed by a pause of 15 seconds; a client that is refused for lack of a descriptor isn't
+    informed."""
     with running(program, workers=32) as server:
         limits = resource.prlimit(server.child.pid, resource.RLIMIT_NOFILE)
         with Clients(server.port) as clients:
@@ -478,7 +496,8 @@ def few_descriptors(program):
 def no_descriptors(program):
     """The same with a limit below all descriptors that it has. Connections may then wait; nothing spins, and when the
     limit is raised it serves again. Then it waits for connections as at first, and those for which there is no
-    descriptor are told so again."""
+    descriptor are told so again. Refuses: a failed `accept` is followed by a pause of 15 seconds; without descriptors
+    the listener is polled without a pause; there is no spare descriptor the next time."""
     with running(program, workers=8) as server:
         limits = resource.prlimit(server.child.pid, resource.RLIMIT_NOFILE)
         with Clients(server.port) as clients:
@@ -512,7 +531,8 @@ def no_descriptors(program):
 
 def listener_ends(program):
     """If the listener gives no connection any more it ends with status 1, and says so, as soon as those that it serves
-    have ended; so it does with a log."""
+    have ended; so it does with a log. Refuses: a listener that has ended doesn't end the door; with a log, its end is
+    reported as a failed log."""
     for sync in (None, "always"):
         with logged.new_folder() as folder:
             options = logged.options_of(folder, sync) if sync else ()
@@ -527,7 +547,9 @@ def listener_ends(program):
 
 
 def too_few_to_start(program):
-    """With more workers than descriptors it doesn't start, and names the limit that is enough to start and serve."""
+    """With more workers than descriptors it doesn't start, and names the limit that is enough to start and serve.
+    Refuses: the requested limit of open files is too low; of as many clients as workers that come at once some have to
+    leave."""
     for workers, most in ((64, 20), (64, 64), (1024, 1000), (4, 4)):
         def set_limits(most=most):
             resource.setrlimit(resource.RLIMIT_NOFILE, (most, most))
@@ -551,8 +573,9 @@ def too_little_memory_to_start(program):
 
 
 def full_memory(program):
-    """When additions have filled the memory, consumers come whose workers never served anybody. Each is answered: so few
-    workers have the memory of their connections from the start on."""
+    """When additions have filled the memory, consumers come whose workers never served anybody. Each is answered: so
+    few workers have the memory of their connections from the start on. Refuses: under `run` the memory of 64 workers
+    isn't made at the start; XPENDING reserves room for a million rows at once."""
     with running(program, workers=8) as server:
         with Clients(server.port) as clients:
             one = clients.new()
@@ -577,7 +600,8 @@ def full_memory(program):
 
 def full_memory_of_many(program):
     """Of more than 64 workers those that never served anybody may find no memory when additions have filled it: the
-    connection is told so, and its worker serves the next one."""
+    connection is told so, and its worker serves the next one. Refuses: a gate ends with a connection for which there is
+    no memory."""
     with running(program, workers=80) as server:
         with Clients(server.port) as clients:
             one = clients.new()
@@ -605,7 +629,8 @@ def full_memory_of_many(program):
 
 
 def full_queue_beside_producers(program):
-    """While memory is full and two producers never stop, consumers are served."""
+    """While memory is full and two producers never stop, consumers are served. Refuses: a worker never gives its
+    reserve back."""
     with running(program, workers=16) as server:
         all_answer(server)
         full_queue.limit_memory(server, 64 * MEGABYTE)
@@ -622,7 +647,8 @@ BEHIND_THE_GONE = 150 * MEGABYTE
 
 def memory_of_the_gone(program, size=1_000_000, most=BEHIND_THE_GONE):
     """What the replies to clients took that left before they had read them, and the requests of others that left before
-    they were whole, is given back, though nobody comes behind them."""
+    they were whole, is given back, though nobody comes behind them. Refuses: a worker frees its memory only when its
+    next connection comes."""
     with running(program, workers=12) as server, Clients(server.port) as clients:
         reply = served.fill(server, "great", 100, size)
         one, gone = clients.new(), [clients.new() for _ in range(11)]
@@ -713,8 +739,9 @@ def reads_nothing(stream):
 
 @timed
 def closes_the_idle(program):
-    """With `--idle 1` connections that send nothing for a second, or take nothing of a reply, are closed; one that waits,
-    and one that sends now and then, isn't."""
+    """With `--idle 1` connections that send nothing for a second, or take nothing of a reply, are closed; one that
+    waits, and one that sends now and then, isn't. Refuses: `--idle` lasts a second longer; `--idle` sets no bound for a
+    write."""
     kinds = (sends_nothing, falls_silent, stops_within_a_request, waits, sends_requests, sends_bytes, reads_nothing)
     with running(program, "--idle", "1", workers=len(kinds)) as server:
         def work(place):
@@ -729,8 +756,10 @@ def closes_the_idle(program):
 
 
 def keeps_the_idle(program):
-    """Without `--idle`, and with `--idle 0`, a connection that is idle stays open; with `--idle 86400` it may be so for a
-    day, and a signal that stops and continues the server doesn't end it."""
+    """Without `--idle`, and with `--idle 0`, a connection that is idle stays open; with `--idle 86400` it may be so for
+    a day, and a signal that stops and continues the server doesn't end it. Refuses: connections are closed after three
+    seconds without `--idle`; `--idle` is a minute at most; a read that a signal has interrupted is taken for the
+    end."""
     def work(place):
         with running(program, *((), ("--idle", "0"), ("--idle", "86400"))[place]) as server, raw(server.port) as stream:
             say(stream, "PING", PONG.decode())
@@ -757,7 +786,8 @@ def is_here(host):
 
 
 def addresses(program):
-    """It listens on the address of `--bind` alone. One beyond loopback is refused without `--open`."""
+    """It listens on the address of `--bind` alone. One beyond loopback is refused without `--open`. Refuses: `run`
+    listens on all addresses; addresses of private networks need no `--open`."""
     for host in filter(is_here, ("127.0.0.2", "::1")):
         with running(program, workers=2, host=host) as server:
             with socket.create_connection((host, server.port), timeout=PATIENCE) as stream:
@@ -778,7 +808,7 @@ def addresses(program):
 
 
 def tells_of_itself(program):
-    """Help and the version stand on standard output, with status 0."""
+    """Help and the version stand on standard output, with status 0. Refuses: help ends with status 1."""
     for before in ([], ["run"], ["serve"]):
         for word in ("--help", "-h", "help"):
             done = run([program, *before, word])
@@ -792,7 +822,8 @@ def tells_of_itself(program):
 
 
 def defaults(program):
-    """Without options it serves 64 connections at once on port 6379 of 127.0.0.1, and says so."""
+    """Without options it serves 64 connections at once on port 6379 of 127.0.0.1, and says so. Refuses: the first line
+    reports another number of descriptors; threads have stacks of 8 MiB."""
     try:
         with socket.socket() as probe:
             probe.setsockopt(socket.SOL_SOCKET, socket.SO_REUSEADDR, 1)
@@ -827,7 +858,7 @@ def wrong_options(program):
 
 def taken(program):
     """A port in use is told on standard error, with status 1, and who has it goes on; so is an address that isn't
-    there."""
+    there. Refuses: a port in use is reported as a missing address; a missing address is reported as a port in use."""
     with running(program, workers=2) as server:
         done = run(served.words_of_run(program, server.port, 2))
         line = f"xs_server: listening on 127.0.0.1:{server.port} failed: address in use\n".encode()

@@ -38,7 +38,8 @@ ACCEPTS_AGAIN = 2
 
 
 def replies_before_more(server):
-    """Each reply comes while the client sends nothing more and keeps its connection."""
+    """Each reply comes while the client sends nothing more and keeps its connection. Refuses: replies aren't sent
+    before a read; one worker alone starts; nothing is served."""
     with raw(server.port) as stream:
         stream.settimeout(5)
         for text, reply in (("PING", "+PONG\r\n"), ("XADD before 7-0 f v", bulk("7-0")), ("XLEN before", number(1)),
@@ -62,7 +63,8 @@ def in_order(server):
 
 
 def of_all_sizes(server):
-    """Replies that are smaller and greater than a buffer of 64 KiB come whole, alone and behind a small one."""
+    """Replies that are smaller and greater than a buffer of 64 KiB come whole, alone and behind a small one. Refuses: a
+    full buffer isn't sent, or loses bytes."""
     around = 65_536
     sizes = [1, 2, 100, 1000, 10_000, *range(around - 20, around + 20), 70 * 1024, 2 * around - 8, 2 * around, 5_000_000]
     with raw(server.port) as stream:
@@ -107,9 +109,10 @@ def byte_by_byte(server):
 
 @timed
 def without_delay(server):
-    """A small reply behind another small one comes at once, though the client hasn't acknowledged the former. The second
-    request comes while the first one is executed, which names so many ids that it takes a while. A turn in which that
-    took no time, or too long, isn't counted: the second reply may come at once then, however it is sent."""
+    """A small reply behind another small one comes at once, though the client hasn't acknowledged the former. The
+    second request comes while the first one is executed, which names so many ids that it takes a while. A turn in which
+    that took no time, or too long, isn't counted: the second reply may come at once then, however it is sent. Refuses:
+    Nagle's delay stays on."""
     fill(server, "delay", 1, 1)
     say_at(server, "XGROUP CREATE delay g 0", "+OK\r\n")
     asked, took, waits = asking("XACK delay g" + " 1-1" * 200_000), [], []
@@ -179,7 +182,8 @@ def a_queue(server):
 
 
 def cut_everywhere(server):
-    """Requests cut at every byte, by an end and by a reset. What isn't whole isn't executed."""
+    """Requests cut at every byte, by an end and by a reset. What isn't whole isn't executed. Refuses: a fault of one
+    connection ends its worker."""
     whole = asking("XADD cut 1-1 f v")
     for count in range(len(whole)):
         with raw(server.port) as stream:
@@ -213,7 +217,8 @@ def in_two_parts(server):
 
 
 def endings(server):
-    """QUIT is answered and ends the connection; so does what is no request, behind its error."""
+    """QUIT is answered and ends the connection; so does what is no request, behind its error. Refuses: a writer that is
+    dropped sends nothing."""
     for sent, reply in ((asking("QUIT"), b"+OK\r\n"), (b"PING\r\n", PROTOCOL), (b"*1048577\r\n", PROTOCOL),
                         (b"*1\r\n$536870913\r\n", PROTOCOL), (b"*1\r\n$03\r\n", PROTOCOL)):
         with raw(server.port) as stream:
@@ -235,8 +240,9 @@ def vanished(server):
 
 
 def nothing_of_another(server):
-    """Behind a client that reset its connection with replies unread, or within a request, the next ones have the replies
-    to their own requests, and no byte of the other's."""
+    """Behind a client that reset its connection with replies unread, or within a request, the next ones have the
+    replies to their own requests, and no byte of the other's. Refuses: after a failed write what was gathered stays,
+    and the next connection doesn't drop it."""
     fill(server, "others", 10, 100_000)
     asked, own = asking("XRANGE others - +"), 0
     for sent in (asked * 20, asked * 20 + asked[:-5], asking("PING others") * 10_000, asking("PING others")[:-5]):
@@ -264,7 +270,7 @@ def nothing_of_another(server):
 
 
 def listens_here_alone(server):
-    """It listens on its port of 127.0.0.1, and on nothing else."""
+    """It listens on its port of 127.0.0.1, and on nothing else. Refuses: it listens on 0.0.0.0."""
     folder = f"/proc/{server.child.pid}/fd"
     links, listening = [], []
     for name in os.listdir(folder):
@@ -288,7 +294,8 @@ def used_within_a_second(server):
 
 
 def idle(server):
-    """With connections that send nothing, and without any, it takes no processor time."""
+    """With connections that send nothing, and without any, it takes no processor time. Refuses: the keeper never
+    sleeps."""
     for count in (0, server.workers):
         with contextlib.ExitStack() as open_ones:
             for _ in range(count):
@@ -300,7 +307,7 @@ def idle(server):
 
 def stopped_and_continued(server):
     """The signals that stop and continue a process interrupt its calls. Nothing is lost: what was read, what is
-    written, nor who waits."""
+    written, nor who waits. Refuses: `write` is called once where `write_all` is needed."""
     reply = fill(server, "stops", 100, 100_000)
     with raw(server.port) as slow, raw(server.port) as quiet:
         slow.sendall(asking("XRANGE stops - +") + PING)
@@ -369,7 +376,8 @@ def more_than_workers(program):
 
 
 def ends(program):
-    """Each worker serves as many connections as `--each` says; then the program ends with status 0."""
+    """Each worker serves as many connections as `--each` says; then the program ends with status 0. Refuses: a gate
+    takes one connection more."""
     with serving(program, workers=2, each=3) as server:
         for place in range(6):
             assert server.child.poll() is None, f"it ended after {place} connections"
@@ -388,7 +396,7 @@ def taken(program):
 
 def options(program):
     """Numbers out of their ranges, and options that are missing or odd, end the program with status 2; it doesn't
-    listen. The greatest and the least numbers are taken."""
+    listen. The greatest and the least numbers are taken. Refuses: 65 workers are taken."""
     right = {"--port": str(served.free_port()), "--workers": "2", "--each": "3"}
     wrong = [("--port", "0"), ("--port", "65536"), ("--workers", "0"), ("--workers", "65"), ("--each", "0"),
              ("--each", "1000001"), *((name, word) for name in right for word in ("", "x", "-1", "1.5", None))]
@@ -452,7 +460,8 @@ def full_output(program):
 
 
 def too_little_to_start(program):
-    """If there is no room for 64 threads the program says so, with status 1, and doesn't say that it listens."""
+    """If there is no room for 64 threads the program says so, with status 1, and doesn't say that it listens. Refuses:
+    work begins although a thread wasn't started."""
     for room in (10, 30, 50):
         done = subprocess.run(served.words_of(program, served.free_port(), 64, 1), capture_output=True, timeout=30,
                               preexec_fn=served.with_limits({resource.RLIMIT_AS: room * MEGABYTE}))
@@ -461,8 +470,9 @@ def too_little_to_start(program):
 
 
 def few_descriptors(program):
-    """With fewer descriptors than workers no worker is lost, and none spins: as many connections are served as there are
-    descriptors, and with more of them all workers serve."""
+    """With fewer descriptors than workers no worker is lost, and none spins: as many connections are served as there
+    are descriptors, and with more of them all workers serve. Refuses: a failed `accept` ends its gate; nothing pauses
+    after one."""
     workers, descriptors = 16, 12
     with serving(program, workers=workers, limits={resource.RLIMIT_NOFILE: descriptors}) as server:
         # the thread that says that it listens ends with that
@@ -512,7 +522,8 @@ def great_request(stream, size):
 
 def idle_behind_great_ones(program):
     """Connections that stay open behind a great reply or a great request hold no more memory than others. The size is
-    one that the C library gives back at once."""
+    one that the C library gives back at once. Refuses: an encoder keeps its last reply; a buffer of requests keeps up
+    to 1 GiB."""
     size = 40_000_000
     for ask in (great_reply, great_request):
         with serving(program, workers=3) as server, contextlib.ExitStack() as open_ones:
@@ -531,7 +542,9 @@ def idle_behind_great_ones(program):
 
 
 def memory_of_entries(program):
-    """An entry takes little more memory than its bytes."""
+    """An entry takes little more memory than its bytes. Refuses: a block has one entry; at 1,000 bytes a full block
+    keeps the room that its entries don't take; blocks keep up to 2,000 unused bytes, and have room for 2,560 however
+    large entries are."""
     for size, most, count in ((60, 110, 50_000), (10, 40, 100_000), (1000, 1100, 20_000)):
         with serving(program) as server:
             all_answer(server)
@@ -555,7 +568,8 @@ def ask_together(stream, count, ask, size=50):
 
 
 def memory_of_small_ones(program):
-    """Small streams take little memory, also once most of their entries are deleted; so do small groups."""
+    """Small streams take little memory, also once most of their entries are deleted; so do small groups. Refuses: a new
+    stream has the room of a block; a map of few entries has room for 64."""
     count, ids = 5000, [f"{place}-0" for place in range(1, 31)]
     kinds = {
         "of one entry": (600, lambda place: [f"XADD one{place} 1-0 f v"]),
@@ -577,7 +591,8 @@ def memory_of_small_ones(program):
 
 
 def memory_of_rows_read_one_by_one(program):
-    """The rows of a consumer share its name, also if each was read by itself: docs/CLIENTS.md says 118 bytes a row."""
+    """The rows of a consumer share its name, also if each was read by itself: docs/CLIENTS.md says 118 bytes a row.
+    Refuses: a consumer's name is copied for a row that is read by itself."""
     count, name = 5000, "c" * 1000
     with serving(program) as server:
         all_answer(server)
@@ -594,7 +609,7 @@ def memory_of_rows_read_one_by_one(program):
 
 def memory_of_deleted_entries(program):
     """Of deleted entries little memory is kept, also if one in a hundred stays, which is about one in each block of
-    small entries: what they took serves the next ones."""
+    small entries: what they took serves the next ones. Refuses: blocks give no memory back, and never join."""
     count, size = 60_000, 10
     with serving(program) as server:
         all_answer(server)
@@ -614,7 +629,8 @@ def memory_of_deleted_entries(program):
 
 def waits_take_no_time(program):
     """Who waits for its answer while the keeper serves others takes no processor time: requests over which the keeper
-    takes a while cost as much from eight clients at once as from one, up to what the processors' caches make of it."""
+    takes a while cost as much from eight clients at once as from one, up to what the processors' caches make of it.
+    Refuses: a lane never parks."""
     count, turns = 50_000, 320
     with serving(program, workers=8) as server:
         add_many(server, "busy", 1, count, 1)
@@ -640,7 +656,7 @@ def waits_take_no_time(program):
 
 def listener_ends(program):
     """If the listener gives no connection any more the program ends with status 1, and says so; what was accepted
-    before is served."""
+    before is served. Refuses: a listener that has ended doesn't end its gate."""
     with serving(program, workers=2) as server, raw(server.port) as stream:
         say(stream, "PING", PONG.decode())
         if not served.shut_listener(server):
@@ -652,30 +668,35 @@ def listener_ends(program):
 
 
 def full_queue_deleted(program):
-    """When memory runs out additions alone are refused, and consumers empty the queue."""
+    """When memory runs out additions alone are refused, and consumers empty the queue. Refuses: workers keep no memory
+    for connections and requests; a worker's reserve isn't refilled."""
     full_queue.under_a_bound(program, "XDEL")
 
 
 def full_queue_trimmed(program):
-    """The same with 64 workers, and trims instead of deletions."""
+    """The same with 64 workers, and trims instead of deletions. Refuses: workers keep no memory for connections and
+    requests."""
     full_queue.with_many_workers(program, "XTRIM")
 
 
 def full_queue_beside_producers(program):
-    """While memory is full and two producers never stop, consumers are served."""
+    """While memory is full and two producers never stop, consumers are served. Refuses: a worker never gives its
+    reserve back."""
     with serving(program, workers=6, limits={resource.RLIMIT_AS: 200_000 * 1024}) as server:
         full_queue.consume_beside_producers(server, 600)
 
 
 def full_queue_of_great_jobs(program):
     """A job of 5 MB, one of 3 MB in 1,000 fields, and three of 500 KB at once, are taken and claimed while memory is
-    full."""
+    full. Refuses: the keyspace's reserve has 4 MiB only, and is refilled before additions only; the reserve has room
+    for the reply of the last entry only; that room isn't given back."""
     for size, count, fields in ((5_000_000, 1, 1), (3_000_000, 1, 1000), (500_000, 3, 1)):
         full_queue.great_jobs(program, size, count, fields)
 
 
 def full_queue_handed_out(program):
-    """The same with NOACK: each entry is in one reply."""
+    """The same with NOACK: each entry is in one reply. Refuses: workers keep no memory for connections and requests; a
+    worker's reserve isn't refilled."""
     full_queue.under_a_bound(program, "NOACK")
 
 

@@ -94,7 +94,8 @@ def no_room_for_more(program):
 
 
 def never_waits(program):
-    """A read with BLOCK that EXEC lets go is answered at once, alone, between others and as the last."""
+    """A read with BLOCK that EXEC lets go is answered at once, alone, between others and as the last. Refuses: a read
+    that EXEC releases waits."""
     null = "*-1\r\n"
     with running(program) as server, raw(server.port) as stream, stream.makefile("rb") as replies:
         ask(replies, stream, "XGROUP CREATE s g 0 MKSTREAM", OK)

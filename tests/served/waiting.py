@@ -93,7 +93,8 @@ class Clients(contextlib.ExitStack):
 
 
 def never_an_empty_array(server):
-    """A reader isn't given a stream without entries, though an entry was added and deleted since its last read."""
+    """A reader isn't given a stream without entries, though an entry was added and deleted since its last read.
+    Refuses: a read with BLOCK 10 doesn't wait."""
     with Clients(server.port) as clients:
         one, reader = clients.new(), clients.new()
         make(one, "empty")
@@ -107,7 +108,8 @@ def never_an_empty_array(server):
 
 
 def key_deleted(server):
-    """A reader is told when its key is deleted, also if it is the second of its keys; another key disturbs nobody."""
+    """A reader is told when its key is deleted, also if it is the second of its keys; another key disturbs nobody.
+    Refuses: of the keys of a DEL only the last one reaches waiting readers."""
     with Clients(server.port) as clients:
         one = clients.new()
         make(one, "gone", "kept", "odd")
@@ -250,7 +252,8 @@ def two_readers(server):
 
 
 def of_two_groups(server):
-    """Of the readers of each group the one that waits longest is given the entry, and the others wait on."""
+    """Of the readers of each group the one that waits longest is given the entry, and the others wait on. Refuses: once
+    a reader finds nothing, those of other groups aren't looked at."""
     with Clients(server.port) as clients:
         one, readers = clients.new(), {}
         make(one, "both")
@@ -383,8 +386,9 @@ def at_the_last_moment(server):
 
 
 def ends_in_time(program):
-    """A wait of 300 ms takes 300 to 450 ms, whenever it begins; another one that began before it isn't over. Of nine waits
-    the median counts, and of three tries the best, since the machine may be busy."""
+    """A wait of 300 ms takes 300 to 450 ms, whenever it begins; another one that began before it isn't over. Of nine
+    waits the median counts, and of three tries the best, since the machine may be busy. Refuses: a wait lasts 200 ms
+    longer."""
     with running(program, workers=12) as server, Clients(server.port) as clients:
         make(clients.new(), "timed")
         longer, tries = clients.waiting("long", "timed", "BLOCK 20000"), []
@@ -426,7 +430,8 @@ def sixty(program):
 
 @timed
 def waiting_costs_nothing(program):
-    """60 readers that wait take no processor time, and another client is answered meanwhile."""
+    """60 readers that wait take no processor time, and another client is answered meanwhile. Refuses: a lane never
+    parks; a worker checks its client a hundred times a second."""
     count = 60
     with running(program, workers=count + 1) as server, Clients(server.port) as clients:
         one = clients.new()
@@ -490,7 +495,9 @@ def leaves(program, end, behind):
 
 
 def clients_that_go(program):
-    """Each way in which a client goes while it waits, on a server of its own whose other workers are all busy."""
+    """Each way in which a client goes while it waits, on a server of its own whose other workers are all busy. Refuses:
+    what a waiting client sent is taken for the next one's; 64 KiB are held of what a client sends behind a waiting
+    read; after a client left while it waited, no read of its worker waits."""
     def work(place):
         with told_as(WAYS[place]):
             leaves(program, *WAYS[place])
@@ -499,7 +506,8 @@ def clients_that_go(program):
 
 
 def has_just_gone(program):
-    """If who waits longest went 0.2 seconds before a job came, it goes to one who is there."""
+    """If who waits longest went 0.2 seconds before a job came, it goes to one who is there. Refuses: 64 KiB are held of
+    what a client sends behind a waiting read."""
     def work(half):
         with running(program, workers=3 * len(BEHIND)) as server, Clients(server.port) as clients:
             one, other = clients.new(), clients.new()
@@ -520,7 +528,7 @@ def has_just_gone(program):
 
 def many_have_just_gone(program):
     """If all who wait longest went 0.2 seconds before a job came, each in a way of its own, it goes to the one who is
-    there."""
+    there. Refuses: before a job is delivered only one client that has left is passed over."""
     with running(program, workers=len(WAYS) + 2) as server, Clients(server.port) as clients:
         one, other = clients.new(), clients.new()
         make(one, "left")
