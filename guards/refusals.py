@@ -8,7 +8,7 @@ Tests that only refusals can fail are crates of extra.txt, so that CI doesn't pr
 name says `a_refused` or `a_refusal` runs with its first allocation refused, then with its second, and so on, until a run
 asks for fewer; one whose name says `take_no_memory` or `takes_no_memory` with all refused from the first on, then from
 the second on, and so on. Each run has to pass. The last line is 'N passed, M failed', by runs; the status is 1 if M > 0
-or nothing ran.
+or nothing ran. Debian: apt-get install gcc
 """
 import os
 import subprocess

@@ -1,7 +1,7 @@
 #!/usr/bin/env python3
 """Refuses the allocations of whole scripts, one after the other.
 
-    refused_scripts.py [--only WORD] PROGRAM [ARG ..]      needs cc
+    refused_scripts.py [--only WORD] PROGRAM [ARG ..]
 
 Each case of tests/cases runs once with ample memory, with lines behind it that ask for all that its keys hold.
 Then it runs with its first allocation refused (refuse.c, loaded into the program), then with its second, and so on,
@@ -9,7 +9,7 @@ until a run asks for fewer. A run whose replies are all as before has absorbed t
 `OOM out of memory`: the replies before it are as before, and a run with that line given twice has, behind the `OOM`,
 all replies as before, so the refusal changed nothing. Or the program ends with status 1 and `out of memory`: what it
 wrote are the replies to the lines before. The last line is 'N passed, M failed', by runs; the status is 1 where
-M > 0 or nothing ran.
+M > 0 or nothing ran. Debian: apt-get install gcc
 """
 import argparse
 import io

@@ -5,10 +5,10 @@
 
 Each round has 400 commands of streams and groups (tests/served/commands.py says which, and what is left out), from the
 empty keyspace on; the program runs them as one script. A reply has to be that of Redis, byte by byte; of an error the
-first word, since texts differ; of XINFO what inspections.py says. The moments of the script go forwards and
-backwards, and the clock of Redis stands still at each: so times are compared too. A round ends at its first
-difference, which is shown. `--counts` shows how often each kind of reply of each command came. The last line is
-'N passed, M failed', by commands; the status is 1 where M > 0.
+first word, since texts differ; of XINFO what inspections.py says. The moments of the script go forwards and backwards,
+and the clock of Redis stands still at each: so times are compared too. A round ends at its first difference, which is
+shown. `--counts` shows how often each kind of reply of each command came. The last line is 'N passed, M failed', by
+commands; the status is 1 where M > 0. Debian: apt-get install redis-server gcc
 """
 import argparse
 import io

@@ -3,11 +3,12 @@
 
     at_random_served.py [--seed N] [--rounds N] [--counts] PROGRAM
 
-In each round each connection asks 400 commands as at_random.py makes them, of keys of its own, which it
-has removed first; EXISTS in the place of DBSIZE, which counts those of all connections. The first connection sends one
-at a time, the next 3 together, then 5, and so on to 15. Both servers have the clock of the machine: an idle time is
-compared as old or as new. Else a reply has to be that of Redis, as there. `--counts` shows how often each kind of reply
-of each command came. The last line is 'N passed, M failed', by commands; the status is 1 where M > 0.
+In each round each connection asks 400 commands as at_random.py makes them, of keys of its own, which it has removed
+first; EXISTS in the place of DBSIZE, which counts those of all connections. The first connection sends one at a time,
+the next 3 together, then 5, and so on to 15. Both servers have the clock of the machine: an idle time is compared as
+old or as new. Else a reply has to be that of Redis, as there. `--counts` shows how often each kind of reply of each
+command came. The last line is 'N passed, M failed', by commands; the status is 1 where M > 0. Debian: apt-get install
+redis-server
 """
 import argparse
 import os

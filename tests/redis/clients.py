@@ -3,14 +3,14 @@
 
     clients.py [--show] PROGRAM
 
-Each client of clients/ adds jobs, reads them by two consumers, acknowledges, leaves some and claims them by
-id and by scan, trims, deletes, and is refused what is wrong, on a server of its own; it prints a line for each step, in
-the form that clients/forms.py tells. All lines have to be those that the same client prints with Redis, and a step has
-to be answered alike to all clients. Those of clients/guarded do a thousand jobs behind a name, a database, a
-password and transactions, and those of clients/started start and tell what they found, with `run` and with
-Redis. A client that isn't installed is skipped, and counts as neither.
-`--show` prints the lines of each. The last line is 'N passed, M failed'; the status is 1 where M > 0. Debian: the
-Makefile names the packages.
+Each client of clients/ adds jobs, reads them by two consumers, acknowledges, leaves some and claims them by id and by
+scan, trims, deletes, and is refused what is wrong, on a server of its own; it prints a line for each step, in the form
+that clients/forms.py tells. All lines have to be those that the same client prints with Redis, and a step has to be
+answered alike to all clients. Those of clients/guarded do a thousand jobs behind a name, a database, a password and
+transactions, and those of clients/started start and tell what they found, with `run` and with Redis. A client that
+isn't installed is skipped, and counts as neither.
+`--show` prints the lines of each. The last line is 'N passed, M failed'; the status is 1 where M > 0. The
+Makefile names the Debian packages.
 """
 import argparse
 import contextlib

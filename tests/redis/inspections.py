@@ -1,4 +1,4 @@
-"""What a reply to XINFO has in common with that of a real Redis 7.0. The rest differs by a rule of docs/COMMANDS.md:
+"""What a reply to XINFO has in common with that of a real Redis 7.0. The rest differs, as docs/COMMANDS.md says:
 
 - the radix tree of a stream is ours;
 - of groups Redis counts what was read, and how many entries are ahead it reckons from that, which goes wrong once some

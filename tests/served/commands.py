@@ -1,6 +1,6 @@
 """Commands made at random, of streams and of groups, over few keys, groups, consumers and ids, so that they meet.
 
-Left out is where this server and Redis 7.0 say something else, and each for a rule of docs/COMMANDS.md:
+Left out is what this server and Redis 7.0 answer differently, each for a rule of README.md or docs/COMMANDS.md:
 - `*`, whose moment a script says itself; `~` and LIMIT; COUNT below 1 in XRANGE and XREVRANGE;
 - whether a consumer is there that read or claimed, since Redis brings it in only with a delivery or a claim: the
   consumers of CREATECONSUMER have names of their own, which never read;

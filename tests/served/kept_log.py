@@ -1,9 +1,9 @@
 """A log that an earlier program has made, and what has to be there behind a start on it.
 
-The records of logs/model-1/log-1 were made by the program while its clocks stood at 1700000000000, and a
-second further at each command: all that change something, on keys of their own. It made them in format 1; logs.py has
-spelled them anew in format 2, where they have sizes. The replies below were not taken from it: they are what
-docs/COMMANDS.md says of its records, `less log-1`. The last record but one ended the wait of the last one.
+The records of logs/model-1/log-1 were made by the program while its clocks stood at 1700000000000, and a second further
+at each command: all that change something, on keys of their own. It made them in format 1; logs.py has spelled them
+anew in format 2, where they have sizes. The replies below were not taken from it: they are what the Redis pages and
+docs/COMMANDS.md say of its records (`less log-1`). The last record but one ended the wait of the last one.
 """
 import io
 import os

@@ -7,7 +7,9 @@ A server may read requests and have them executed while earlier ones aren't answ
 all the same: replies come in order, whole, each to its own request and client, and nothing is executed that stands
 behind an end. Each case has a server of its own, of `serve`, of `run` and with a log. Replies are those of the Redis
 pages of the commands and of the RESP specification; docs/COMMANDS.md has the texts of errors. It needs Python's
-standard library alone. The last line is 'N passed, M failed'; the status is 1 if M > 0.
+standard library, and a C compiler, which is installed if it isn't there. The last line is 'N passed, M failed'; the
+status is 1 if M > 0.
+
 
 Refused were also programs with one of these: a reply in another one's place; a request executed twice, or elsewhere;
 something executed behind a QUIT, a protocol error or a waiting read; half a request executed, or the last whole one
