@@ -21,5 +21,5 @@ def need(name, packages, installs=False):
     if installs and not is_there(name):
         subprocess.run(f"apt-get update && apt-get install -y {packages}", shell=True, stdout=subprocess.DEVNULL)
     if not is_there(name):
-        print(f"{name} isn't installed; Debian: apt-get install {packages}")
+        print(f"{name.replace('import ', 'the Python module ')} isn't installed; Debian: apt-get install {packages}")
         sys.exit(2)

@@ -10,7 +10,6 @@ pages of the commands and of the RESP specification; docs/COMMANDS.md has the te
 standard library, and a C compiler, which is installed if it isn't there. The last line is 'N passed, M failed'; the
 status is 1 if M > 0.
 
-
 Refused were also programs with one of these: a reply in another one's place; a request executed twice, or elsewhere;
 something executed behind a QUIT, a protocol error or a waiting read; half a request executed, or the last whole one
 unanswered; replies before a wait held back; a reply to the next client; requests of a gone client executed again; a
