@@ -20,7 +20,7 @@ import states
 from books import Connection
 from crash_points import FURTHER, LOOKS, OWN
 from logged import is_refusal, logged, new_folder, start
-from resp import bulk, number, read_reply
+from resp import bulk, number
 from served import raw, say, say_at
 from states import READS, words_of
 

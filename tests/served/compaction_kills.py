@@ -4,7 +4,6 @@ Its last log is closed in two ways: between two lives it is cut into several log
 begins the next one, since an entry fills its log.
 """
 import contextlib
-import os
 import random
 import signal
 import subprocess

@@ -21,7 +21,7 @@ import full_queue
 import max_memory
 import sessions
 from full_queue import MEGABYTE, NO_MEMORY, limit_memory
-from resp import array, bulk, entry, number, request
+from resp import bulk, number, request
 from served import (PING, PONG, all_answer, asking, fill, raw, read_exactly, read_to_end, reset, running, say, say_at,
                     serving, together, try_all)
 
