@@ -1,7 +1,9 @@
 #!/usr/bin/env python3
 """Measures the program beside a real Redis 7.0, in one run: works of streams.
 
-    bench.py [--runs N] [--commands N] [--only WORD] [--instructions] PROGRAM      needs redis-server and cc
+    bench.py [--runs N] [--commands N] [--only WORD] [--instructions] PROGRAM
+
+Debian: apt-get install redis-server gcc, and valgrind for --instructions
 
 bench/beside_redis.py says how.
 """

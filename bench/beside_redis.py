@@ -20,10 +20,14 @@ import re
 import shutil
 import statistics
 import subprocess
+import sys
 import tempfile
 import termios
 import time
 from dataclasses import dataclass
+
+sys.path.append(os.path.join(os.path.dirname(__file__), "../scripts"))
+from needs import need  # noqa: E402
 
 HERE = os.path.dirname(os.path.abspath(__file__))
 # What callgrind tells once it runs a process.
@@ -215,6 +219,10 @@ def main(told, works):
     parser.add_argument("--instructions", action="store_true", help="count them, in one run; needs valgrind")
     parser.add_argument("program")
     asked = parser.parse_args()
+    need("redis-server", "redis-server")
+    need("cc", "gcc")
+    if asked.instructions:
+        need("valgrind", "valgrind")
     titles = ["Work", *(TITLES_OF_INSTRUCTIONS if asked.instructions else TITLES)]
     print(f"| {' | '.join(titles)} |\n|{'---|' * len(titles)}", flush=True)
     with tempfile.TemporaryDirectory() as folder:

@@ -3,7 +3,7 @@
 
     blocking.py [--runs N] [--rounds N] [--seconds N] PROGRAM
 
-It needs redis-server, redis-cli and cc.
+Debian: apt-get install redis-server redis-tools gcc
 
 Both servers are started once, `PROGRAM run` and a redis-server that keeps nothing on disk; each work begins with a new
 stream. The first lines tell the processor time of the server while 16 and 60 consumers read with BLOCK 5000 and nothing
@@ -28,6 +28,9 @@ import tempfile
 import time
 
 from tcp import Server, free_port, spread
+
+sys.path.append(os.path.join(os.path.dirname(__file__), "../scripts"))
+from needs import need  # noqa: E402
 
 HERE = os.path.dirname(os.path.abspath(__file__))
 WORKERS = 64
@@ -188,6 +191,9 @@ def main():
     parser.add_argument("--seconds", type=float, default=10)
     parser.add_argument("program")
     asked = parser.parse_args()
+    need("redis-server", "redis-server")
+    need("redis-cli", "redis-tools")
+    need("cc", "gcc")
     with tempfile.TemporaryDirectory() as folder:
         driver = os.path.join(folder, "blocking_driver")
         subprocess.run(["cc", "-O2", "-pthread", "-o", driver, os.path.join(HERE, "blocking_driver.c")], check=True)

@@ -4,7 +4,7 @@ file, in one run.
 
     compaction.py [--only size,pauses,restart] [--jobs N] [--entries N] [--rate N] [--runs N] [--folder FOLDER] PROGRAM
 
-It needs redis-server and cc.
+Debian: apt-get install redis-server gcc
 
 size: so many jobs of 100 bytes are added, read, acknowledged and deleted, with 1,000 waiting at any time. Both servers
 compact by themselves, as they do if nothing is set. The greatest sizes of their folders are told.
@@ -30,6 +30,7 @@ import signal
 import socket
 import statistics
 import subprocess
+import sys
 import tempfile
 import threading
 import time
@@ -37,6 +38,9 @@ import typing
 
 from log import logged_words, program_words, redis_words, start, tell_sync
 from tcp import HERE, free_port, spread
+
+sys.path.append(os.path.join(os.path.dirname(__file__), "../scripts"))
+from needs import need  # noqa: E402
 
 WAITING, BATCH = 1000, 100
 # How many entries are added at once.
@@ -468,6 +472,8 @@ def main():
     parser.add_argument("--folder", default=tempfile.gettempdir())
     parser.add_argument("program")
     asked = parser.parse_args()
+    need("redis-server", "redis-server")
+    need("cc", "gcc")
     with folder_in(asked) as folder:
         tell_sync(folder)
         paced = os.path.join(folder, "paced_driver")

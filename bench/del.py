@@ -1,17 +1,24 @@
 #!/usr/bin/env python3
 """Times XTRIM and DEL of a great stream beside a real Redis 7.0, over TCP, in one run.
 
-    del.py [--entries N] [--rounds N] [--only WORD] PROGRAM      needs redis-server
+    del.py [--entries N] [--rounds N] [--only WORD] PROGRAM
+
+Debian: apt-get install redis-server
 
 Each command is asked of `PROGRAM serve` and of a redis-server that keeps nothing on disk, in turn, each time of a
 stream that pipelined XADDs have filled anew, with entries of one field of 60 bytes. A line tells the milliseconds that a
 client waits, here and of Redis: the median of the rounds, with the least and the greatest, and the ratio of the two.
 """
 import argparse
+import os
 import socket
 import statistics
 import subprocess
+import sys
 import time
+
+sys.path.append(os.path.join(os.path.dirname(__file__), "../scripts"))
+from needs import need  # noqa: E402
 
 PORT = 7493
 DEEP = 1000
@@ -69,6 +76,7 @@ def main():
     asked.add_argument("--only", default="")
     asked.add_argument("program", metavar="PROGRAM")
     given = asked.parse_args()
+    need("redis-server", "redis-server")
     filling = additions(given.entries)
     servers = [Server(PORT, given.program, "serve", "--port", str(PORT), "--workers", "4", "--each", "1000000"),
                Server(PORT + 1, "redis-server", "--port", str(PORT + 1), "--save", "", "--appendonly", "no")]

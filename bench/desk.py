@@ -1,9 +1,11 @@
 #!/usr/bin/env python3
 """Measures round trips between the lanes of a desk and its keeper, beside plain Rust.
 
-    desk.py [--runs N] [--lanes N,N,..] [--calls N] [--each N] [--busy N] [--spins N ..]    needs the toolchain and rustc
+    desk.py [--runs N] [--lanes N,N,..] [--calls N] [--each N] [--busy N] [--spins N ..]
     desk.py --beside A,B [--runs N] [--calls N] [--spins N ..]      one number of lanes beside another
     desk.py --idle      how much processor time a keeper takes that nobody asks
+
+It needs the toolchain. Debian: apt-get install rustc
 
 Each lane has a thread, and asks as soon as it has its reply: all lanes together so many calls, but each at least so
 many, 20,000 by itself, so that the start of its thread doesn't count. Beside them threads of plain
@@ -32,6 +34,9 @@ import time
 from busy import busy
 from programs import build_plain, laid_down
 from tcp import spread
+
+sys.path.append(os.path.join(os.path.dirname(__file__), "../scripts"))
+from needs import need  # noqa: E402
 
 IDLE = 2.0
 # The most of the processors' time that the host may take from a run, how often a run is made anew for it, and how many
@@ -183,6 +188,7 @@ def main():
     parser.add_argument("--idle", action="store_true")
     parser.add_argument("--beside", default="")
     asked = parser.parse_args()
+    need("rustc", "rustc")
     with laid_down.new_folder() as folder:
         if asked.idle:
             program = build_desks(folder, [None])[None]

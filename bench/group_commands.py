@@ -1,7 +1,9 @@
 #!/usr/bin/env python3
 """Measures the program beside a real Redis 7.0, in one run: works of groups.
 
-    group_commands.py [--runs N] [--commands N] [--only WORD] [--instructions] PROGRAM      needs redis-server and cc
+    group_commands.py [--runs N] [--commands N] [--only WORD] [--instructions] PROGRAM
+
+Debian: apt-get install redis-server gcc, and valgrind for --instructions
 
 bench/beside_redis.py says how. Each work is of so many commands or rows, on a stream of 10,000 and one of 1,000,000
 entries. Where the stream has fewer entries than that, it has so many more groups, and each has its turn. What a work

@@ -2,10 +2,11 @@
 """Measures a consumer group beside a plain Rust program over the same two maps.
 
     groups.py [--runs N]        by processor time
-    groups.py --instructions    by instructions, which other work on the machine doesn't change; needs valgrind
+    groups.py --instructions    by instructions, which other work on the machine doesn't change
 
-It needs the toolchain and rustc. The program over the group is bench_groups of extra.txt, in a
-copy of the repository. Each work is done on
+It needs the toolchain. Debian: apt-get install rustc valgrind
+
+The program over the group is bench_groups of extra.txt, in a copy of the repository. Each work is done on
 groups of 10,000, 100,000 and 1,000,000 entries, until 1,000,000 rows were worked on in all. What making the stream
 takes is taken off the deliveries, and what stream and deliveries take off the other works; off removals what they take
 where the group is left in memory, since removals leave nothing to free.
@@ -18,8 +19,12 @@ import os
 import re
 import statistics
 import subprocess
+import sys
 
 from programs import build_plain, laid_down, run as run_program
+
+sys.path.append(os.path.join(os.path.dirname(__file__), "../scripts"))
+from needs import need  # noqa: E402
 
 SIZES = (10_000, 100_000, 1_000_000)
 WORKS = ("stream", "fill", "kept", "ack", "claim", "scan", "summary", "rows", "owner", "remove")
@@ -88,6 +93,9 @@ def main():
     parser.add_argument("--runs", type=int, default=8)
     parser.add_argument("--instructions", action="store_true")
     asked = parser.parse_args()
+    need("rustc", "rustc")
+    if asked.instructions:
+        need("valgrind", "valgrind")
     with laid_down.new_folder() as folder:
         programs = {
             "here": laid_down.build(folder, "bench_groups", ["10000", "stream"]),

@@ -3,7 +3,7 @@
 
     log.py [--runs N] [--pairs CxD,..] [--works NAME,..] [--seconds N] [--records N] [--folder FOLDER] PROGRAM
 
-It needs redis-server, redis-cli and cc.
+Debian: apt-get install redis-server redis-tools gcc
 
 The first line, and that behind the first table, tell how long one fdatasync takes here, behind an append of 100 bytes:
 on a shared disk that may change within a minute. The first table tells requests a second, so many connections sending
@@ -20,13 +20,15 @@ import contextlib
 import os
 import re
 import signal
-import statistics
 import subprocess
 import sys
 import tempfile
 import time
 
 from tcp import ADD, HERE, QUEUE, WORKS, Server, free_port, latencies, spread
+
+sys.path.append(os.path.join(os.path.dirname(__file__), "../scripts"))
+from needs import need  # noqa: E402
 
 PAIRS = "1x1,16x1,64x1,1x16,16x16,64x16"
 SYNCS = 200
@@ -201,6 +203,9 @@ def main():
     parser.add_argument("--folder", default=tempfile.gettempdir())
     parser.add_argument("program")
     asked = parser.parse_args()
+    need("redis-server", "redis-server")
+    need("redis-cli", "redis-tools")
+    need("cc", "gcc")
     with tempfile.TemporaryDirectory(dir=asked.folder) as folder:
         driver = os.path.join(folder, "tcp_driver")
         subprocess.run(["cc", "-O2", "-pthread", "-o", driver, os.path.join(HERE, "tcp_driver.c")], check=True)

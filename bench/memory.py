@@ -1,7 +1,9 @@
 #!/usr/bin/env python3
 """Measures the memory of streams beside a real Redis 7.0, in one run.
 
-    memory.py [--entries N] [--only WORD] PROGRAM      needs redis-server
+    memory.py [--entries N] [--only WORD] PROGRAM
+
+Debian: apt-get install redis-server
 
 Bytes of a group with one consumer and one pending row, of 10,000 and of 100,000 such groups, and with eight and nine rows;
 and bytes of a pending row, of so many rows as entries, with one consumer and with a hundred: of the program with a script,
@@ -21,9 +23,10 @@ import subprocess
 import sys
 import time
 
-TOP = os.path.dirname(os.path.dirname(os.path.abspath(__file__)))
-sys.path.append(os.path.join(TOP, "conformance"))
-from real_redis import connect, read_reply, request  # noqa: E402
+sys.path.append(os.path.join(os.path.dirname(__file__), "../scripts"))
+sys.path.append(os.path.join(os.path.dirname(__file__), "../tests/served"))
+from needs import need  # noqa: E402
+from resp import connect, read_reply, request  # noqa: E402
 
 SHAPES = {"one field of 60": (1, 1, 60), "five of 10 + 20": (5, 10, 20), "one of 1,000": (1, 1, 1000),
           "six of 10 + 40": (6, 10, 40)}
@@ -209,6 +212,7 @@ def main():
     asked.add_argument("--only", default="")
     asked.add_argument("program", metavar="PROGRAM")
     given = asked.parse_args()
+    need("redis-server", "redis-server")
     of_groups_and_rows(given)
     for title, shape in SHAPES.items():
         if given.only in title:

@@ -3,7 +3,7 @@
 
     paced.py [--rates N,N,..] [--connections N] [--seconds N] [--runs N] PROGRAM
 
-It needs redis-server and redis-cli.
+Debian: apt-get install redis-server redis-tools
 
 So many additions a second, of one field of 60 bytes, are sent over the connections in turn, each at its moment. A line
 of the table tells the processor time of the server for a request, and its voluntary context switches for one: of all
@@ -18,6 +18,9 @@ import time
 from dataclasses import dataclass
 
 from tcp import Server, free_port
+
+sys.path.append(os.path.join(os.path.dirname(__file__), "../scripts"))
+from needs import need  # noqa: E402
 
 REQUEST = b"*5\r\n$4\r\nXADD\r\n$1\r\ns\r\n$1\r\n*\r\n$1\r\nf\r\n$60\r\n" + b"v" * 60 + b"\r\n"
 SPIN = 0.0002
@@ -92,6 +95,8 @@ def main():
     parser.add_argument("--runs", type=int, default=3)
     parser.add_argument("program")
     asked = parser.parse_args()
+    need("redis-server", "redis-server")
+    need("redis-cli", "redis-tools")
     ports = free_port(), free_port()
     here = Server([asked.program, "serve", "--port", str(ports[0]), "--workers", str(asked.connections + 4),
                    "--each", "1000000"], ports[0], None)

@@ -3,7 +3,7 @@
 
     pauses.py [--paces N/MS,N/MS,..] [--seconds N] [--runs N] PROGRAM
 
-It needs redis-server.
+Debian: apt-get install redis-server
 
 One connection sends N additions of one field of 60 bytes at once each MS milliseconds, and takes all replies before its
 next batch. It asks `PROGRAM serve`, `PROGRAM run` and a redis-server that keeps nothing on disk, in turn. A line of the
@@ -12,6 +12,7 @@ for a request, each the median of the runs; then the ratios to Redis. Client and
 """
 import argparse
 import contextlib
+import os
 import socket
 import statistics
 import sys
@@ -20,6 +21,9 @@ from dataclasses import dataclass
 
 from paced import REQUEST, wait_until
 from tcp import Server, free_port
+
+sys.path.append(os.path.join(os.path.dirname(__file__), "../scripts"))
+from needs import need  # noqa: E402
 
 # An addition's reply has two lines, the second of which is the id.
 LINES = 2
@@ -102,6 +106,7 @@ def main():
     parser.add_argument("--runs", type=int, default=3)
     parser.add_argument("program")
     asked = parser.parse_args()
+    need("redis-server", "redis-server")
     ratios = [f"{name} by Redis" for name in SERVERS if name != "Redis"]
     print("Median, 99 % and processor time for a request, in µs:\n")
     print(f"| Additions | {' | '.join([*SERVERS, *ratios])} |\n|{'---|' * (1 + len(SERVERS) + len(ratios))}")

@@ -1,7 +1,9 @@
 #!/usr/bin/env python3
 """Measures the reader of requests beside hiredis, which reads the same bytes as replies.
 
-    requests.py [--runs N]      needs the toolchain, cc and libhiredis-dev
+    requests.py [--runs N]      needs the toolchain
+
+Debian: apt-get install gcc libhiredis-dev
 
 Each reads 1,000,000 additions with one value of 60 bytes out of memory, in pieces of 16 KiB, of 1 KiB and of 7 bytes.
 The program over the reader is bench_requests of extra.txt, in a copy of the repository. Processor time is what the kernel counts.
@@ -9,8 +11,12 @@ The program over the reader is bench_requests of extra.txt, in a copy of the rep
 import os
 import statistics
 import subprocess
+import sys
 
 from programs import HERE, laid_down, run as run_program, runs as runs_asked
+
+sys.path.append(os.path.join(os.path.dirname(__file__), "../scripts"))
+from needs import need  # noqa: E402
 
 SIZES = (16384, 1024, 7)
 COUNT = 1_000_000
@@ -38,6 +44,8 @@ def spread(values):
 
 def main():
     runs = runs_asked(__doc__)
+    need("cc", "gcc")
+    need("/usr/include/hiredis/hiredis.h", "libhiredis-dev")
     with laid_down.new_folder() as folder:
         programs = {
             "here": laid_down.build(folder, "bench_requests", ["16384"]),

@@ -1,8 +1,10 @@
 #!/usr/bin/env python3
 """Measures sessions over memory beside the script of the same commands and a real Redis 7.0.
 
-    sessions.py [--runs N] PROGRAM        by processor time; needs the toolchain, redis-server and cc
-    sessions.py --instructions PROGRAM    by instructions, of sessions and scripts; needs the toolchain and valgrind
+    sessions.py [--runs N] PROGRAM        by processor time
+    sessions.py --instructions PROGRAM    by instructions, of sessions and scripts
+
+It needs the toolchain. Debian: apt-get install redis-server gcc valgrind
 
 1,000,000 additions with one value of 60 bytes, and 1,000,000 PINGs. A session of xs_session asks a keyspace alone, and
 is fed out of memory in pieces of 16 KiB and of 100 bytes; its replies go to nowhere. The program over it is
@@ -14,10 +16,14 @@ import argparse
 import os
 import re
 import subprocess
+import sys
 
 from bench import VALUE
 from beside_redis import Redis, ratios, spread, take, write_part
 from programs import HERE, laid_down, run
+
+sys.path.append(os.path.join(os.path.dirname(__file__), "../scripts"))
+from needs import need  # noqa: E402
 
 COUNT = 1_000_000
 SIZES = (16384, 100)
@@ -98,6 +104,10 @@ def main():
     parser.add_argument("--instructions", action="store_true")
     parser.add_argument("program")
     asked = parser.parse_args()
+    need("redis-server", "redis-server")
+    need("cc", "gcc")
+    if asked.instructions:
+        need("valgrind", "valgrind")
     with laid_down.new_folder() as folder:
         programs = Programs(folder, os.path.abspath(asked.program))
         if asked.instructions:

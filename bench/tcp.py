@@ -3,7 +3,7 @@
 
     tcp.py [--runs N] [--connections N,N,..] [--deep N,N,..] [--works NAME,..] [--busy N] PROGRAM
 
-It needs redis-server, redis-cli and cc.
+Debian: apt-get install redis-server redis-tools gcc
 
 Each work is asked by bench/tcp_driver.c of `PROGRAM serve`, with four workers more than there are connections, and of a
 redis-server that keeps nothing on disk, in turn; both are started anew for each number of connections and each depth,
@@ -26,6 +26,9 @@ from dataclasses import dataclass
 
 import beside_redis
 from busy import busy
+
+sys.path.append(os.path.join(os.path.dirname(__file__), "../scripts"))
+from needs import need  # noqa: E402
 
 HERE = os.path.dirname(os.path.abspath(__file__))
 VALUE = "v" * 60
@@ -182,6 +185,9 @@ def main():
     parser.add_argument("--busy", type=int, default=0)
     parser.add_argument("program")
     asked = parser.parse_args()
+    need("redis-server", "redis-server")
+    need("redis-cli", "redis-tools")
+    need("cc", "gcc")
     with busy(asked.busy), tempfile.TemporaryDirectory() as folder:
         driver = os.path.join(folder, "tcp_driver")
         subprocess.run(["cc", "-O2", "-pthread", "-o", driver, os.path.join(HERE, "tcp_driver.c")], check=True)

@@ -1,16 +1,23 @@
 #!/usr/bin/env python3
 """Counts the instructions of works over streams in two programs, say before and after a change.
 
-    two_programs.py [--only WORD] [--entries N] PROGRAM PROGRAM      needs valgrind
+    two_programs.py [--only WORD] [--entries N] PROGRAM PROGRAM
+
+Debian: apt-get install valgrind
 
 Each work begins behind its filling: valgrind counts a script of the filling alone and one of both, and the difference is
 told for each command. Other work on the machine doesn't change that.
 """
 import argparse
+import os
 import random
 import re
 import subprocess
+import sys
 import tempfile
+
+sys.path.append(os.path.join(os.path.dirname(__file__), "../scripts"))
+from needs import need  # noqa: E402
 
 ONE = (1, 1, 60)
 FIVE = (5, 10, 20)
@@ -108,6 +115,7 @@ def main():
     asked.add_argument("--entries", type=int, default=20_000)
     asked.add_argument("programs", nargs=2, metavar="PROGRAM")
     given = asked.parse_args()
+    need("valgrind", "valgrind")
     fillings = {}
     for title, filling, commands in Works(given.entries).each():
         if given.only not in title:

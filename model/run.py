@@ -2,18 +2,19 @@
 """Has Spin explore the models of how lanes and their keeper wait for each other (waiting.pml), and of how calls wait
 (blocked.pml), and some wrong protocols.
 
-    run.py              needs spin and a C compiler; Debian: apt-get install spin gcc
+    run.py              Debian: apt-get install spin gcc
 
 The protocol has to hold, and in each wrong one Spin has to find an error. It prints a line for each. The last line is
-'N passed, M failed'; the status is 1 if M > 0. Spin is installed if it isn't there; if that fails, the last line says
-that nothing was explored, and the status is 1 too.
+'N passed, M failed'; the status is 1 if M > 0. Spin and the compiler are installed if they aren't there.
 """
 import os
 import re
-import shutil
 import subprocess
 import sys
 import tempfile
+
+sys.path.append(os.path.join(os.path.dirname(__file__), "../scripts"))
+from needs import need  # noqa: E402
 
 FOLDER = os.path.dirname(os.path.abspath(__file__))
 WRONG = ["the keeper doesn't say that it sleeps", "the keeper says that it sleeps behind its last look",
@@ -54,11 +55,8 @@ def errors_of(file, words):
 
 
 def main():
-    if not shutil.which("spin"):
-        subprocess.run("apt-get update && apt-get install -y spin gcc", shell=True, stdout=subprocess.DEVNULL)
-    if not shutil.which("spin"):
-        print("nothing was explored: Spin can't be installed")
-        return 1
+    need("spin", "spin gcc", installs=True)
+    need("cc", "gcc", installs=True)
     passed = failed = 0
     models = [("waiting.pml", "the protocol", 0, []),
               ("waiting.pml", "the protocol, with two places in a ring", 0, ["-DDEPTH=2"]),

@@ -1,5 +1,5 @@
 #!/usr/bin/env python3
-"""Writes the table of the wrong bodies that CI tries into docs/PROOFS.md.
+"""Writes the list of the wrong bodies that CI tries into docs/PROOFS.md.
 
     edits_table.py            writes it
     edits_table.py --check    says whether it is as the folders have it; the status is 1 if it isn't
@@ -19,14 +19,10 @@ def edits_of(crate):
     return sorted(file.removesuffix(".edit") for file in files if file.endswith(".edit"))
 
 
-def table():
-    """A row for each crate that has edits."""
-    rows = ["| Crate | Wrong bodies that CI tries |\n", "|---|---|\n"]
-    for crate in sorted(os.listdir(os.path.join(TOP, "crates"))):
-        edits = edits_of(crate)
-        if edits:
-            rows.append(f"| `{crate}` | {', '.join(f'`{edit}`' for edit in edits)} |\n")
-    return "".join(rows)
+def names():
+    """An item for each crate that has edits."""
+    edits = {crate: edits_of(crate) for crate in sorted(os.listdir(os.path.join(TOP, "crates")))}
+    return "".join(f"- `{crate}`: {', '.join(f'`{name}`' for name in edits[crate])}\n" for crate in edits if edits[crate])
 
 
 def main(arguments):
@@ -36,7 +32,7 @@ def main(arguments):
     with open(PAGE, encoding="utf-8") as page:
         text = page.read()
     before, rest = text.split(BEGIN)
-    new = before + BEGIN + table() + END + rest.split(END)[1]
+    new = before + BEGIN + names() + END + rest.split(END)[1]
     if arguments:
         if new != text:
             print("docs/PROOFS.md has other edits than the folders: run scripts/edits_table.py")
