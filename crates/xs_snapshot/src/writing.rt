@@ -137,7 +137,7 @@ fn put_key<T: Tape + Drop>(
 /// # Errors
 /// A `WriteFault`: out of memory; or the tape failed; or a piece has too many words, or too long ones, or there are
 /// 2^64 pieces or more.
-pub fn put_keys<T: Tape + Drop>(
+fn put_keys<T: Tape + Drop>(
     writer: &mut SnapshotWriter<T>,
     keyspace: &Keyspace,
 ) -> Result<(), WriteFault>
@@ -158,7 +158,7 @@ pub fn put_keys<T: Tape + Drop>(
 ///
 /// # Errors
 /// A `WriteFault`, as `put_keys` gives it. Nothing is said of what is kept then.
-pub fn complete_snapshot<T: Tape + Drop>(
+fn complete_snapshot<T: Tape + Drop>(
     writer: &mut SnapshotWriter<T>,
     keyspace: &Keyspace,
 ) -> Result<(), WriteFault>
