@@ -9,6 +9,7 @@ ghost use Rattle.xs_keys.specs.ReplyParts.{array, id_reply, scan_reply, taken_re
 ghost use Rattle.xs_keys.specs.Step.{Attempt};
 
 use crate::keys::Keys;
+use crate::let_group::let_group;
 use crate::showing::{push_entries, push_id, push_ids};
 use std::alloc::{AllocError, Global};
 use xs_command::{AutoClaimCommand, Command};
@@ -97,12 +98,10 @@ pub fn claim(
 ) -> Result<Reply, AllocError>
     ensures { Attempt keys.old now (Command.AutoClaim command.now) result keys.new }
 {
-    let Some(slot) = keys.slots.get_mut(&command.key) else {
-        return Ok(Reply::Error(Fault::NoGroup));
-    };
-    let Some(group) = slot.groups.get_mut(&command.group) else {
-        return Ok(Reply::Error(Fault::NoGroup));
-    };
+    let_group!(
+        slot, group = keys, &command.key, &command.group,
+        else { return Ok(Reply::Error(Fault::NoGroup)) }
+    );
     let before = group.room();
     let claimed = claim_in(group, alloc, &slot.stream, now, command);
     keys.account.change(before, group.room());

@@ -8,6 +8,7 @@ ghost use Rattle.xs_keys.specs.ReplyParts.{array, id_reply, taken_reply};
 ghost use Rattle.xs_keys.specs.Step.{Attempt};
 
 use crate::keys::Keys;
+use crate::let_group::let_group;
 use crate::showing::{entries_shown, push_ids};
 use std::alloc::{AllocError, Global};
 use xs_command::{ClaimCommand, Command};
@@ -71,12 +72,10 @@ pub fn claim(
 ) -> Result<Reply, AllocError>
     ensures { Attempt keys.old now (Command.Claim command.now) result keys.new }
 {
-    let Some(slot) = keys.slots.get_mut(&command.key) else {
-        return Ok(Reply::Error(Fault::NoGroup));
-    };
-    let Some(group) = slot.groups.get_mut(&command.group) else {
-        return Ok(Reply::Error(Fault::NoGroup));
-    };
+    let_group!(
+        slot, group = keys, &command.key, &command.group,
+        else { return Ok(Reply::Error(Fault::NoGroup)) }
+    );
     let before = group.room();
     let claimed = claim_in(group, alloc, &slot.stream, now, command);
     keys.account.change(before, group.room());

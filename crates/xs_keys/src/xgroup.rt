@@ -11,6 +11,7 @@ ghost use Rattle.xs_keys.specs.Step.{AppliedAtAnyTime, Attempt, AttemptAtAnyTime
 
 use crate::account::{Account, NoMemory};
 use crate::keys::{Groups, Keys, Slot};
+use crate::let_group::let_group;
 use crate::name_map::NameMap;
 use crate::reserve::Reserve;
 use std::alloc::{AllocError, Global};
@@ -221,12 +222,11 @@ pub fn create_consumer(
 ) -> Result<Reply, AllocError>
     ensures { Attempt keys.old now (Command.ConsumerCreate key.now group.now consumer.now) result keys.new }
 {
-    let Some(slot) = keys.slots.get_mut(key) else {
-        return Ok(Reply::Error(Fault::NoKey));
-    };
-    let Some(group) = slot.groups.get_mut(group) else {
-        return Ok(Reply::Error(Fault::NoGroup));
-    };
+    let_group!(
+        slot, group = keys, key, group,
+        else { return Ok(Reply::Error(Fault::NoKey)) },
+        else { return Ok(Reply::Error(Fault::NoGroup)) }
+    );
     let before = group.room();
     let added = add_consumer(&keys.account, alloc, now, group, consumer);
     keys.account.change(before, group.room());
@@ -240,12 +240,11 @@ pub fn create_consumer(
 pub fn delete_consumer(keys: &mut Keys, key: &Bytes, group: &Bytes, consumer: &Bytes) -> Reply
     ensures { AppliedAtAnyTime keys.old (Command.ConsumerDelete key.now group.now consumer.now) result keys.new }
 {
-    let Some(slot) = keys.slots.get_mut(key) else {
-        return Reply::Error(Fault::NoKey);
-    };
-    let Some(group) = slot.groups.get_mut(group) else {
-        return Reply::Error(Fault::NoGroup);
-    };
+    let_group!(
+        slot, group = keys, key, group,
+        else { return Reply::Error(Fault::NoKey) },
+        else { return Reply::Error(Fault::NoGroup) }
+    );
     let before = group.room();
     let count = group.remove_consumer(consumer);
     keys.account.change(before, group.room());

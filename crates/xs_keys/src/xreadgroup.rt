@@ -16,6 +16,7 @@ ghost use Rattle.xs_keys.specs.Waiting.{finds_none_in, finds_nothing};
 ghost use Rattle.xs_group.specs.GroupState.{new_ids};
 
 use crate::keys::{Keys, group_at};
+use crate::let_group::let_group;
 use crate::showing::{ENTRY_TOKENS, push_along};
 use std::alloc::{AllocError, Global};
 use xs_bytes::Bytes;
@@ -128,12 +129,7 @@ fn serve_at(
     ensures ok { IfOk result (IsServedAt now read.now one.now keys.old keys.new tokens.old tokens.new) }
     ensures err { OnErr result (keys.new ≡ keys.old) }
 {
-    let Some(slot) = keys.slots.get_mut(&one.key) else {
-        unreachable!();
-    };
-    let Some(group) = slot.groups.get_mut(&read.group) else {
-        unreachable!();
-    };
+    let_group!(slot, group = keys, &one.key, &read.group, else { unreachable!() });
     let before = group.room();
     let delivery = read_group(group, alloc, &slot.stream, now, read, one.from)?;
     let rows = delivery.rows.as_slice();
@@ -154,12 +150,7 @@ fn undo_at(keys: &mut Keys, key: &Bytes, group: &Bytes, delivery: Delivery)
     requires { (before : Content) × IsMadeAt group.now key.now before keys.old delivery }
     ensures { (before : Content) → IsMadeAt group.now key.now before keys.old delivery → keys.new ≡ before }
 {
-    let Some(slot) = keys.slots.get_mut(key) else {
-        unreachable!();
-    };
-    let Some(group) = slot.groups.get_mut(group) else {
-        unreachable!();
-    };
+    let_group!(slot, group = keys, key, group, else { unreachable!() });
     let before = group.room();
     group.undo(delivery);
     keys.account.change(before, group.room());
