@@ -126,7 +126,7 @@ fn read_pairs(alloc: Global, words: Words<'_>) -> Result<List<Field>, Refusal>
     let mut left = words;
     for _pair in 0..count {
         let (field, behind) = read_field(alloc, &left)?;
-        items.push(field)?;
+        items.push_reserved(field);
         left = behind;
     }
     Ok(List::new(items))
