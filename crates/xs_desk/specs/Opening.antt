@@ -22,14 +22,14 @@ AreNew k depth [] [] = Unit {0}
 AreNew k depth (lane ∷ lanes) (client ∷ clients) = IsNewLane k depth lane client × AreNew (k + 1) depth lanes clients
 AreNew k depth _ _ = ⊥
 
--- the numbers of lanes that a desk with at most so many may have, and the numbers of places
+-- the numbers of lanes that a desk with at most this many may have, and the numbers of places
 abbrev pub IsLaneCount : ℕ → ℕ → Type 0
 IsLaneCount most n = (0 < n) × (n ≤ most)
 
 abbrev pub IsDepth : ℕ → Type 0
 IsDepth depth = (0 < depth) × (depth < 65537)
 
--- the lanes are too many or none; else the places are; else memory ran out
+-- there are too many lanes or none; else too many places or none; else memory ran out
 abbrev pub IsDeskError : ℕ → ℕ → ℕ → DeskError → Type 0
 IsDeskError most n depth Lanes = (n ≡ 0) ⊎ (most < n)
 IsDeskError most n depth Depth = IsLaneCount most n × ((depth ≡ 0) ⊎ (65536 < depth))
