@@ -7,7 +7,7 @@ use Rattle.xs_resp.specs.declared.reply.Reply.TheVariants.{Error}
 use Rattle.xs_command.specs.declared.command.Command.{Command}
 use Rattle.xs_command.specs.Read.{command_of_words}
 
--- the words are a command, which is asked and replied to; or nothing is asked, since they have a fault or memory ran
+-- the words are a command, which is asked and replied to; or nothing is asked, because they have a fault or memory ran
 -- out
 abbrev pub Answered :
     {P : Type 0} → (P → Command → Reply → P → Type 0) → P → List (List ℕ) → Option Command → Reply → P → Type 0
