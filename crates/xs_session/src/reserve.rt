@@ -4,15 +4,16 @@ ghost use Rattle.std.specs.Prelude.{◌≡◌, ◌==◌, ◌≤◌, ◌-◌, len
 use std::alloc::{AllocError, Global};
 use std::marker::Model;
 
-/// The number of small pieces in a full reserve. The size of each, in bytes, is enough for most commands. If it were
-/// less than half of that, the C library would keep what is given back for requests of the very same size.
+/// The number of small pieces in a full reserve. `SMALL_PIECE` is the size of each in bytes, which is enough for most
+/// commands. Pieces of less than half that size, given back, would be kept by the C library for requests of the very
+/// same size.
 const SMALL_PIECES: usize = 8;
 
 const SMALL_PIECE: usize = 2048;
 
-/// The number of large pieces in a full reserve. Together they are enough for the command of a request of up to 16 KiB.
-/// The C library maps pieces of this size by themselves, and gives them back to the system. So a thread that has taken
-/// no memory before can get it.
+/// The number of large pieces in a full reserve. `GREAT_PIECE` is the size of each in bytes. Together they are enough
+/// for the command of a request of up to 16 KiB. The C library maps pieces of this size by themselves, and gives them
+/// back to the system. So a thread that has taken no memory before can get it.
 const GREAT_PIECES: usize = 2;
 
 const GREAT_PIECE: usize = 131_072;
