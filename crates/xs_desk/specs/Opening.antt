@@ -5,7 +5,7 @@ use Rattle.xs_desk.specs.declared.opening.DeskError.TheVariants.{Lanes, Depth, M
 use Rattle.xs_desk.specs.History.{LaneOf}
 use Rattle.xs_desk.specs.Callers.{Caller, IsSide}
 
--- lane k, which nobody has used yet
+-- lane k, which hasn't been used yet
 pub record IsNewLane (k depth : ℕ) (lane : LaneOf) (client : Caller) : Type 0 where
   pub popped : lane.popped ≡ []
   pub sent : lane.sent ≡ []
@@ -16,7 +16,7 @@ pub record IsNewLane (k depth : ℕ) (lane : LaneOf) (client : Caller) : Type 0 
   pub answer_depth_is : client.answer_depth ≡ depth
   pub side : IsSide lane client
 
--- lanes from number k on, which nobody has used yet, and their clients
+-- lanes from number k on, which haven't been used yet, and their clients
 abbrev pub AreNew : ℕ → ℕ → List LaneOf → List Caller → Type 0
 AreNew k depth [] [] = Unit {0}
 AreNew k depth (lane ∷ lanes) (client ∷ clients) = IsNewLane k depth lane client × AreNew (k + 1) depth lanes clients

@@ -158,7 +158,7 @@ impl<J: Journal + Drop> Keeper<J> {
     ghost use Rattle.xs_desk.specs.KeptRings.{KeepsRings};
     ghost use Rattle.xs_keys.specs.KeysRoom.{IsRoomOf};
 
-    /// A keeper that has served nobody.
+    /// A keeper that has served no call.
     pub(crate) fn new(
         lane_ends: Vec<LaneEnd>,
         keyspace: Keyspace,
