@@ -23,7 +23,7 @@ rests-with-more (Err wrong) bytes piece old new first k r h =
     let failed = subst (λ o. ReadsHeld (with_piece o piece) first new) r h in
     subst (λ ts. Reads (bytes ++ piece) ts new) (sym failed.0) (subst (λ o. Rests o (bytes ++ piece) new) (sym k) failed.1)
 
--- requests before a piece and behind it
+-- requests before a piece and after it
 reads-with-more : (done : List (List (List ℕ))) (bytes piece : List ℕ) (old new : Held) (first : List (List (List ℕ))) → Reads bytes done old → ReadsHeld (with_piece old piece) first new → Reads (bytes ++ piece) (done ++ first) new
 reads-with-more [] bytes piece old new first r h = rests-with-more (request bytes) bytes piece old new first (request-keeps bytes piece) r h
 reads-with-more (words ∷ done) bytes piece old new first r h =
@@ -37,7 +37,7 @@ reads-with-more (words ∷ done) bytes piece old new first r h =
       ),
     )
 
--- pieces behind bytes
+-- pieces after bytes
 pub pieces-joined : (pieces : List (List ℕ)) (bytes : List ℕ) (done requests : List (List (List ℕ))) (old new : Held) → Reads bytes done old → ReadsPieces old pieces requests new → Reads (bytes ++ concat pieces) (done ++ requests) new
 pieces-joined [] bytes done requests old new r h =
     subst (λ b. Reads b (done ++ requests) new) (sym (append-nil bytes))

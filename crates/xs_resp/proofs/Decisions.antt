@@ -22,7 +22,7 @@ use Rattle.xs_resp.proofs.Headers.{header-fault, header-err, header-line, begins
 use Rattle.xs_resp.proofs.SentWords.{word-err}
 use Rattle.xs_resp.proofs.Sequences.{words-read, words-fault, words-sent, words-keep}
 
--- what a request reads behind its header
+-- what a request reads after its header
 behind-header : List ℕ → Header → Outcome Found
 behind-header bytes h = behind_words [] h.end (words h.number (drop h.end bytes))
 

@@ -10,7 +10,7 @@ use Rattle.xs_resp.specs.Reading.{Found, bulk_string, text_in, behind_words, wor
 use Rattle.xs_resp.proofs.Outcomes.{bind-ok}
 use Rattle.xs_resp.proofs.Sequences.{words-read}
 
--- words behind words
+-- words after words
 in-after : (first : List (List ℕ)) (at : ℕ) (rest : Outcome Found) → IsWhole rest → words_in (behind_words first at rest) ≡ first ++ words_in rest
 in-after first at (Ok (Some found)) whole = refl
 in-after first at (Ok None) whole = absurd (let read = whole.1 in cc)

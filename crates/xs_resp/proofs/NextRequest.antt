@@ -124,7 +124,7 @@ spells-more front [] first words none spells = (first, [], ap (λ f. f ++ first)
 spells-more front (other ∷ requests) first words (one, others, is, spelled, rest) spells =
     (one, others ++ first, ap (λ f. f ++ first) is ∙ append_assoc one others first, spelled, spells-more others requests first words rest spells)
 
--- the request that is read behind others
+-- the request that is read after others
 pub record Took (read front rest : List ℕ) (requests : List (List (List ℕ))) (found : Found) : Type 0 where
   pub first : List ℕ
   pub split : rest ≡ first ++ drop found.end rest

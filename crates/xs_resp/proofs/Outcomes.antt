@@ -23,7 +23,7 @@ Keeps-bind (Ok (Some x)) later next next' k h = rw k (h x refl)
 Keeps-bind (Ok None) later next next' k h = tt
 Keeps-bind (Err wrong) later next next' k h = ap (λ r. r >>= next') k
 
--- words behind words behind words
+-- words after words after words
 pub after-after : (words more : List (List ℕ)) (end length : ℕ) (rest : Outcome Found) → behind_words words end (behind_words more length rest) ≡ behind_words (words ++ more) (end + length) rest
 after-after words more end length (Ok (Some found)) =
     let texts : words ++ (more ++ found.words) ≡ (words ++ more) ++ found.words = rw append_assoc refl in
@@ -44,7 +44,7 @@ cases-outcome (Ok None) = inl refl
 cases-outcome (Ok (Some x)) = inr (inl (x, refl))
 cases-outcome (Err wrong) = inr (inr (wrong, refl))
 
--- behind no words
+-- after no words
 pub after-none : (rest : Outcome Found) → behind_words [] 0 rest ≡ rest
 after-none (Ok (Some found)) = ap (λ n. Ok (Some (record { words = found.words; end = n }))) (omega arith)
 after-none (Ok None) = refl

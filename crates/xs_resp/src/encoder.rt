@@ -143,7 +143,7 @@ impl Encoder {
 
 /// How much of a token fitted.
 enum Fit {
-    /// The whole token.
+    /// The complete token.
     Whole,
     /// Its header; its string is lent.
     Header,
