@@ -37,7 +37,7 @@ impl<T> Trace<T> {
         Self { last: Link::First }
     }
 
-    /// Puts an item behind the others.
+    /// Appends an item.
     pub fn add(&mut self, item: &T)
         ensures { self.new ≡ self.old ++ item.now ∷ [] }
     {
@@ -45,7 +45,7 @@ impl<T> Trace<T> {
         self.last = Link::Next(before, Snapshot::of(item));
     }
 
-    /// Puts items behind the others, in their order.
+    /// Appends items, in their order.
     pub fn add_all(&mut self, items: &[T])
         ensures { self.new ≡ self.old ++ items.now }
     {
