@@ -53,7 +53,7 @@ ScriptEndsBy (Memory written) read sent rest ended =
     (lines : List (List ℕ)) × (line behind : List ℕ) × IsInHand read lines line behind × (length behind ≤ piece + 1)
     × Sent lines sent written
 
--- the whole script is answered, or it ended by a fault
+-- the complete script is answered, or it ended by a fault
 abbrev pub Runs : Result ℕ ScriptFault → List ℕ → List ℕ → Passing → Bool → Type 0
 Runs (Ok n) read sent rest ended = Sent (script_lines read) sent n
 Runs (Err fault) read sent rest ended = ScriptEndsBy fault read sent rest ended
