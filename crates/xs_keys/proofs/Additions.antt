@@ -1,4 +1,4 @@
--- Additions to a key that is there, and to one that isn't.
+-- Additions to a key that exists, and to one that doesn't.
 use Rattle.std.proofs.Common.{◌≡◌, ℕ, true, false, Some, Result, Ok, Err, is_ok, inl, inr, refl}
 use Rattle.std.proofs.lemmas.Bool.{false≢true}
 use Rattle.xs_command.specs.declared.command.AddCommand.{AddCommand}
@@ -13,7 +13,7 @@ no_error : (r : Result Id AddError) → is_ok r ≡ true → is_error (assigned_
 no_error (Ok id) e = refl
 no_error (Err refusal) e = absurd (false≢true e)
 
--- an addition to the stream of a key that is there is a step
+-- an addition to the stream of a key that exists is a step
 pub adds_step : (content : Content) (now : ℕ) (add : AddCommand) (answer : Reply) (key : KeyState) (new : StreamState) → get content add.key ≡ Some key
     → Adds key.stream now add answer new → Step content now (Add add) answer (insert content add.key (record { stream = new; groups = key.groups }))
 adds_step content now add answer key new found (inl done) = inl (record { answer_is = rw found done.0; content_is = rw (found, ← done.1) refl })

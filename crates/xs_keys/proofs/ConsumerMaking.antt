@@ -19,7 +19,7 @@ module _ (content : Content) (now : ℕ) (name group_name consumer : List ℕ) (
     content_is = rw (found, has) (ap (λ (g : GroupState). insert content name (with_group key group_name g)) changed);
   })
 
-  -- so is one that is refused
+  -- and a creation that is refused is a step
   pub refuses-consumer : new ≡ was → Step content now (ConsumerCreate name group_name consumer) (Error Memory) (insert content name (with_group key group_name new))
   refuses-consumer same = inr (record {
     takes = refl;

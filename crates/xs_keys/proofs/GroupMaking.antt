@@ -12,7 +12,7 @@ use Rattle.xs_keys.specs.Grouping.{Creates}
 use Rattle.xs_keys.specs.Step.{Step}
 use Rattle.xs_keys.proofs.NameMaps.{insert-same}
 
--- a creation in a key that is there is a step
+-- a creation in a key that exists is a step
 pub creates_step : (content : Content) (now : ℕ) (create : GroupCreateCommand) (answer : Reply) (key : KeyState) (groups : NameMap GroupState) → get content create.key ≡ Some key
     → Creates create key.stream.top key.groups answer groups
     → Step content now (GroupCreate create) answer (insert content create.key (record { stream = key.stream; groups = groups }))
@@ -34,7 +34,7 @@ creates_step content now create answer key groups found (inr (inr refused)) = in
 no-group : (name : List ℕ) → has_key {X = GroupState} {R = slice_cmp nat_cmp} empty name ≡ false
 no-group name = ap is_some (get-empty {X = GroupState} (slice_cmp nat_cmp) name)
 
--- so is one that makes the key
+-- and one that creates the key is a step
 pub makes_step : (content : Content) (now : ℕ) (create : GroupCreateCommand) → create.make ≡ true → get content create.key ≡ None
     → Step content now (GroupCreate create) (Simple Okay) (insert content create.key (with_group new_key create.group (new_group (starting_id create.start new_key.stream.top))))
 makes_step content now create make missing = inl (record {
@@ -42,7 +42,7 @@ makes_step content now create make missing = inl (record {
   content_is = rw (missing, make, no-group create.group) refl;
 })
 
--- or finds no memory for it
+-- or one for which memory runs out
 pub refused_step : (content : Content) (now : ℕ) (create : GroupCreateCommand) → create.make ≡ true → get content create.key ≡ None
     → Step content now (GroupCreate create) (Error Memory) content
 refused_step content now create make missing = inr (record {

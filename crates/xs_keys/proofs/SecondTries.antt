@@ -1,4 +1,4 @@
--- A command that found no memory has changed nothing, so it may be applied again.
+-- A command for which memory ran out has changed nothing, so it may be applied again.
 use Rattle.std.proofs.Common.{◌≡◌, ℕ, inl, inr, sym, ap, subst, ◌∙◌}
 use Rattle.xs_command.specs.WellFormed.{IsWellFormed}
 use Rattle.xs_keys.specs.Terms.{Error, Memory, Command, Reply}

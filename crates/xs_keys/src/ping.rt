@@ -7,7 +7,7 @@ use xs_bytes::Bytes;
 use xs_command::Command;
 use xs_resp::{Fault, Reply, Simple};
 
-/// PONG, or the message that was sent. No key plays a part.
+/// PONG, or the message that was sent. It doesn't use the keys.
 pub fn ping(alloc: Global, message: &Option<Bytes>) -> Reply
     ensures { (content : Content) → StepAtAnyTime content (Command.Ping message.now) result content }
 {

@@ -4,7 +4,7 @@ use Rattle.xs_keys.specs.Step.{Step}
 use Rattle.xs_keys.proofs.SecondTries.{second-try}
 use Rattle.xs_keys.proofs.keyspace.Keyspace.apply.Goals as goal
 
--- what found no memory has changed nothing, and is applied again
+-- a command for which memory ran out has changed nothing, and is applied again
 pub returns-then-give_back : goal.returns-then-give_back
 returns-then-give_back c =
     subst (λ (old : Content). Step old c.args.now c.args.command.now c.apply_to.result c.apply_to.new.keys) c.self.view_is
