@@ -232,8 +232,8 @@ impl Group {
         self.pending.has_consumer(consumer) && id <= self.cursor && self.pending.is_past_rows(id)
     }
 
-    /// Delivers the entries above the cursor to a consumer, which is created if it is missing (XREADGROUP with `>`).
-    /// With `noack` they don't become pending.
+    /// Delivers the entries above the cursor to a consumer, who is there from then on (XREADGROUP with
+    /// `>`). With `noack` they don't become pending.
     pub fn deliver(
         &mut self,
         alloc: Global,
@@ -266,8 +266,8 @@ impl Group {
         })
     }
 
-    /// Shows a consumer its own pending entries above an id, and delivers those that are in the stream once more
-    /// (XREADGROUP with an id). The consumer is created if it is missing.
+    /// Shows a consumer its own pending entries above an id, and delivers those that are in the stream
+    /// once more (XREADGROUP with an id). The consumer is there from then on.
     pub fn history(
         &mut self,
         alloc: Global,

@@ -66,7 +66,7 @@ above-within : (cursor low x : Id) → next_id cursor ≡ Some low → IsId x �
 above-within cursor low x h fits =
     ap (λ b. not (is_below x low) && not b) (up_to_greatest x fits) ∙ and_yes (not (is_below x low)) ∙ from-past cursor low x h fits
 
--- if a cursor has no successor nothing is above it
+-- where a cursor has no successor nothing is above it
 none-above : (cursor x : Id) → next_id cursor ≡ None → IsId x → is_below cursor x ≡ false
 none-above cursor x h fits = below-is cursor.ms cursor.seq x.ms x.seq ∙ by (ltb cursor.seq greatest_number) (ltb cursor.ms greatest_number) refl refl h where
   by : (s m : Bool) → ltb cursor.seq greatest_number ≡ s → ltb cursor.ms greatest_number ≡ m
