@@ -112,7 +112,7 @@ impl<'a> Words<'a> {
         let mut left = self.again();
         for _name in 0..count {
             let (word, behind) = left.split_first().unwrap();
-            names.push(Bytes::from_slice(alloc, word)?)?;
+            names.push_reserved(Bytes::from_slice(alloc, word)?);
             left = behind;
         }
         Ok((List::new(names), left))

@@ -31,6 +31,6 @@ impl<C: Clock + Drop> Port for Alone<C> {
 
     fn ask_call<R: Wait>(&mut self, _rt: &R, call: Call) -> Result<Reply, PortFault> {
         let now = self.clock.now();
-        Ok(self.keyspace.apply_owned(now, call.command))
+        Ok(self.keyspace.apply(now, &call.command))
     }
 }

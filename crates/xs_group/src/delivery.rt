@@ -1,6 +1,6 @@
 //! What a read of a group delivers (Redis, XREADGROUP).
 use xs_bytes::{Bytes, List, U63};
-use xs_stream::{Id, Moment};
+use xs_stream::{Entry, Id, Moment};
 
 /// When an entry was last delivered to its consumer, and how often it was delivered.
 #[derive(Clone, Copy, Debug, PartialEq, Eq)]
@@ -48,4 +48,13 @@ pub struct Delivery {
     pub kind: DeliveryKind,
     /// The entries delivered or shown.
     pub rows: List<DeliveryRow>,
+}
+
+/// A read of a group, and entries of its stream to look at side by side with the rows.
+#[derive(Drop)]
+pub struct GroupRead<'a> {
+    /// What was read.
+    pub delivery: Delivery,
+    /// The entries. They are lent, and each is the one that a search for its id finds.
+    pub entries: List<Entry<'a>>,
 }

@@ -12,10 +12,10 @@ ghost use Rattle.xs_group.specs.Verdict.{IsClaimOn};
 ghost use Rattle.xs_group.specs.NextRow.{is_next_row, with_row};
 ghost use Rattle.std.specs.Option.{option_map};
 ghost use Rattle.xs_group.specs.Deliveries.{delivery_of, history_of, kind_of, group_after_read, IsMade};
-ghost use Rattle.xs_stream.specs.StreamContent.{ids_of, AllAbove, Ascends};
+ghost use Rattle.xs_stream.specs.StreamContent.{ids_of, AllAbove, Ascends, AreEntriesOf};
 
 use crate::claims::{Claim, ClaimRule, ClaimTerms, Scan};
-use crate::delivery::{Delivery, DeliveryKind, Touch};
+use crate::delivery::{Delivery, DeliveryKind, GroupRead, Touch};
 use crate::lent::{LentConsumers, LentRows};
 use crate::pending::Pending;
 use crate::reports::{ConsumerReport, GroupSummary, PendingRow, Selection};
@@ -23,7 +23,7 @@ use crate::{claims, reading};
 use std::alloc::{AllocError, Global};
 use std::marker::Model;
 use xs_bytes::{Bytes, List, U63};
-use xs_stream::{Id, Moment, Range, Stream};
+use xs_stream::{Id, Moment, Range, Stream, ids_of};
 
 /// The number of bytes that a group without consumers is counted with.
 const GROUP_ROOM: u128 = 205;
@@ -234,73 +234,81 @@ impl Group {
 
     /// Delivers the entries above the cursor to a consumer, who is there from then on (XREADGROUP with
     /// `>`). With `noack` they don't become pending.
-    pub fn deliver(
+    pub fn deliver<'a>(
         &mut self,
         alloc: Global,
-        stream: &Stream,
+        stream: &'a Stream,
         consumer: &Bytes,
         now: Moment,
         limit: Option<u64>,
         noack: bool,
-    ) -> Result<Delivery, AllocError>
-        ensures answer { IfOk result (λ d. d
+    ) -> Result<GroupRead<'a>, AllocError>
+        ensures answer { IfOk result (λ read. read.delivery
             ≡ delivery_of consumer.now limit noack (ids_of stream.now.entries) self.old) }
-        ensures undoable { IfOk result (λ d. IsMade self.old self.new d) }
+        ensures found { IfOk result (λ read. AreEntriesOf stream.now.entries read.entries) }
+        ensures undoable { IfOk result (λ read. IsMade self.old self.new read.delivery) }
         ensures ok { OnOk result (self.new
             ≡ group_after_delivery consumer.now now limit noack (ids_of stream.now.entries) self.old) }
         ensures err { OnErr result (self.new ≡ self.old) }
     {
         let cursor_before = self.cursor;
-        let ids = stream.past(alloc, cursor_before, limit)?;
+        let entries = stream.past(alloc, cursor_before, limit)?;
+        let ids = ids_of(alloc, entries.as_slice())?;
         let rows = reading::new_rows(alloc, ids.as_slice())?;
         let text = Bytes::from_slice(alloc, consumer.as_slice())?;
         let seen_before = self.pending.seen_at(consumer);
         let created = self.receive(alloc, consumer, now, ids.as_slice(), noack)?;
-        Ok(Delivery {
+        let delivery = Delivery {
             consumer: text,
             created,
             seen_before,
             cursor_before,
             kind: kind_of(noack),
             rows: List::new(rows),
-        })
+        };
+        Ok(GroupRead { delivery, entries })
     }
 
     /// Shows a consumer its own pending entries above an id, and delivers those that are in the stream
     /// once more (XREADGROUP with an id). The consumer is there from then on.
-    pub fn history(
+    pub fn history<'a>(
         &mut self,
         alloc: Global,
-        stream: &Stream,
+        stream: &'a Stream,
         consumer: &Bytes,
         now: Moment,
         from: Id,
         limit: Option<u64>,
-    ) -> Result<Delivery, AllocError>
-        ensures answer { IfOk result (λ d. d
+    ) -> Result<GroupRead<'a>, AllocError>
+        ensures answer { IfOk result (λ read. read.delivery
             ≡ history_of consumer.now limit from (ids_of stream.now.entries) self.old) }
-        ensures undoable { IfOk result (λ d. IsMade self.old self.new d) }
+        ensures found { IfOk result (λ read. AreEntriesOf stream.now.entries read.entries) }
+        ensures undoable { IfOk result (λ read. IsMade self.old self.new read.delivery) }
         ensures ok { OnOk result (self.new
             ≡ group_after_reread consumer.now now limit from (ids_of stream.now.entries) self.old) }
         ensures err { OnErr result (self.new ≡ self.old) }
     {
         let cursor_before = self.cursor;
         let ids = self.pending.own_ids(alloc, consumer, from, limit)?;
-        let rows = self.pending.shown_rows(alloc, stream, ids.as_slice())?;
+        let entries = stream.entries_along(alloc, ids.as_slice())?;
+        let rows = self
+            .pending
+            .shown_rows(alloc, stream, entries.as_slice(), ids.as_slice())?;
         let text = Bytes::from_slice(alloc, consumer.as_slice())?;
         let name_bytes = self.name_bytes_with(consumer)?;
         let seen_before = self.pending.seen_at(consumer);
         let created = self.pending.add_consumer(alloc, consumer, now)?;
         self.name_bytes = either(created, name_bytes, self.name_bytes);
         self.pending.redeliver(consumer, now, rows.as_slice());
-        Ok(Delivery {
+        let delivery = Delivery {
             consumer: text,
             created,
             seen_before,
             cursor_before,
             kind: DeliveryKind::History,
             rows: List::new(rows),
-        })
+        };
+        Ok(GroupRead { delivery, entries })
     }
 
     /// Undoes the read that returned this delivery, if it was the last call that changed the group: cursor, consumers

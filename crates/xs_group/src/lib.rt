@@ -17,7 +17,7 @@ mod reading;
 pub mod reports;
 
 pub use claims::{Claim, ClaimRule, ClaimTime, Scan};
-pub use delivery::{Delivery, DeliveryKind, DeliveryRow, Touch};
+pub use delivery::{Delivery, DeliveryKind, DeliveryRow, GroupRead, Touch};
 pub use group::Group;
 pub use lent::{LentConsumers, LentRow, LentRows};
 pub use reports::{ConsumerReport, GroupSummary, OwnerCount, PendingRow};

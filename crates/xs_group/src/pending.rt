@@ -13,7 +13,7 @@ ghost use Rattle.xs_group.specs.NextRow.{is_past_rows};
 ghost use Rattle.xs_group.specs.GroupState.{unless_acked};
 ghost use Rattle.xs_group.specs.GroupState.{unless_owned};
 ghost use Rattle.xs_group.specs.Indexes.{IsNamed, AreFree};
-ghost use Rattle.xs_stream.specs.StreamContent.{ids_of};
+ghost use Rattle.xs_stream.specs.StreamContent.{ids_of, AreEntriesOf};
 ghost use Rattle.xs_group.specs.Deliveries.{touch_of, shown_rows, set_one, set_rows, touch_set, row_ids};
 ghost use Rattle.xs_group.specs.Deliveries.{rows_taken_back};
 ghost use Rattle.xs_group.specs.Deliveries.{list_without_delivery, with_seen};
@@ -31,7 +31,7 @@ use std::alloc::{AllocError, Global};
 use std::marker::Model;
 use xs_bytes::{Bytes, List, U63};
 use xs_maps::{SmallMap, SmallSet};
-use xs_stream::{Id, Moment, Stream};
+use xs_stream::{Entry, Id, Moment, Stream};
 
 /// The consumers and the pending entries. Both indexes have the same pairs of a consumer and an id.
 #[derive(Drop)]
@@ -274,21 +274,23 @@ impl Pending {
         }
     }
 
-    /// The rows of entries that are shown.
+    /// The rows of entries that are shown. An entry that stands among those that are lent, at the place of its id, isn't
+    /// looked up.
     pub(crate) fn shown_rows(
         &self,
         alloc: Global,
         stream: &Stream,
+        lent: &[Entry<'_>],
         ids: &[Id],
     ) -> Result<Vec<DeliveryRow>, AllocError>
+        requires { AreEntriesOf stream.now.entries lent.now }
         ensures { IfOk result (λ rows. rows.items ≡ shown_rows self.now.rows (ids_of stream.now.entries) ids.now) }
     {
         let mut rows = Vec::with_capacity(alloc, ids.len())?;
-        let lent = stream.entries_along(alloc, ids)?;
         for (place, id) in ids.iter().enumerate() {
             let row = DeliveryRow {
                 id: *id,
-                present: reading::is_present_along(stream, lent.as_slice(), place, *id),
+                present: reading::is_present_along(stream, lent, place, *id),
                 before: self.touch_at(*id),
             };
             rows.push(row)?;

@@ -1,6 +1,7 @@
 pub mod Additions
 pub mod AskSteps
 pub mod Assigning
+pub mod Attempts
 pub mod Arrivals
 pub mod Computing
 pub mod Contents
@@ -34,7 +35,6 @@ pub mod Refusals
 pub mod RowsTold
 pub mod Runs
 pub mod ScanParts
-pub mod SecondTries
 pub mod IdsAtEvents
 pub mod EntriesStay
 pub mod Streams

@@ -4,8 +4,9 @@ use Rattle.std.proofs.Common.{◌≡◌, ◌≢◌, ◌&&◌, ℕ, zero, suc, �
 use Rattle.std.proofs.Common.{Some, None, is_some, length, sym, ap, ◌∙◌, refl, arith}
 use Rattle.std.proofs.lemmas.Bool.{false≢true}
 use Rattle.std.proofs.lemmas.Bool.Decides.{nat_tests}
+use Rattle.std.proofs.lemmas.List.{length-map}
 use Rattle.xs_stream.specs.StreamContent.{up_to_limit}
-use Rattle.xs_keys.specs.Terms.{list_all, option_map_or, get, insert, Id, ids_of, new_ids, GroupState}
+use Rattle.xs_keys.specs.Terms.{list_all, option_map_or, get, insert, Id, Field, ids_of, new_ids, GroupState}
 use Rattle.xs_keys.specs.Terms.{is_same_name, ReadGroupCommand, ReadOne, ReadFrom, New, After, ReadGroup, Reply}
 use Rattle.xs_keys.specs.Terms.{NullArray, Error, NoGroup}
 use Rattle.xs_keys.specs.GroupLife.{is_new, ask_of_read}
@@ -22,15 +23,18 @@ use Rattle.xs_keys.proofs.Truths.{first_of, second_of}
 not_zero : (n : ℕ) → (suc n == 0) ≡ false
 not_zero n = grind (arith, nat_tests)
 
--- the first id says whether a limit leaves any
-pub first_decides : (limit : Option ℕ) (ids : List Id) → (length (up_to_limit (at_most_one limit) ids) == 0) ≡ (length (up_to_limit limit ids) == 0)
-first_decides None [] = refl
-first_decides None (x ∷ xs) = not_zero 0 ∙ sym (not_zero (length xs))
-first_decides (Some zero) ids = refl
-first_decides (Some (suc n)) ids = ap (λ b. length (up_to_limit (cond b (Some 0) (Some 1)) ids) == 0) (not_zero n) ∙ by ids where
-  by : (ids : List Id) → (length (up_to_limit (Some 1) ids) == 0) ≡ (length (up_to_limit (Some (suc n)) ids) == 0)
-  by [] = refl
-  by (x ∷ xs) = not_zero 0 ∙ sym (not_zero (length (up_to_limit (Some n) xs)))
+-- the first entry says whether a limit leaves any
+pub first_decides : (limit : Option ℕ) (ids : List Id) (es : List (Id × List Field)) → ids_of es ≡ up_to_limit (at_most_one limit) ids
+    → (length es == 0) ≡ (length (up_to_limit limit ids) == 0)
+first_decides limit ids es e = ap (λ n. n == 0) (sym (length-map es (λ f. f.0)) ∙ ap length e) ∙ by limit ids where
+  by : (limit : Option ℕ) (ids : List Id) → (length (up_to_limit (at_most_one limit) ids) == 0) ≡ (length (up_to_limit limit ids) == 0)
+  by None [] = refl
+  by None (x ∷ xs) = not_zero 0 ∙ sym (not_zero (length xs))
+  by (Some zero) ids = refl
+  by (Some (suc n)) ids = ap (λ b. length (up_to_limit (cond b (Some 0) (Some 1)) ids) == 0) (not_zero n) ∙ some ids where
+    some : (ids : List Id) → (length (up_to_limit (Some 1) ids) == 0) ≡ (length (up_to_limit (Some (suc n)) ids) == 0)
+    some [] = refl
+    some (x ∷ xs) = not_zero 0 ∙ sym (not_zero (length (up_to_limit (Some n) xs)))
 
 no-ids : (ids : List Id) → (length ids == 0) ≡ true → ids ≡ []
 no-ids [] e = refl

@@ -1,13 +1,12 @@
 -- Entries that a stream lends are those that are looked for by their ids.
-use Rattle.std.proofs.Common.{◌≡◌, ℕ, ◌&&◌, eqb, arith, Bool, true, false, List, [], ◌∷◌, ◌++◌, filter, take, map}
-use Rattle.std.proofs.Common.{reverse, Option, Some, None, sym, ap, ◌∙◌, refl}
-use Rattle.std.proofs.lemmas.List.{take-map, reverse-append, map-append}
+use Rattle.std.proofs.Common.{◌≡◌, ℕ, ◌&&◌, eqb, arith, Bool, true, List, [], ◌∷◌, map}
+use Rattle.std.proofs.Common.{Option, Some, sym, ap, ◌∙◌, refl}
 use Rattle.std.proofs.lemmas.Bool.Decides.{nat_tests}
 use Rattle.xs_stream.specs.declared.range.Range.{Range}
-use Rattle.xs_stream.specs.StreamContent.{ids_of, fields_at, is_within, ids_within, all_within, entries_within}
+use Rattle.xs_stream.specs.StreamContent.{ids_of, fields_at, ids_within, entries_within}
 use Rattle.xs_stream.specs.StreamContent.{up_to_limit}
 use Rattle.xs_stream.specs.StreamContent.{IsEntryOf, AreEntriesOf}
-use Rattle.xs_stream.proofs.InOrder.{ids_of-filter}
+use Rattle.xs_stream.proofs.Lending.{ids-within}
 use Rattle.xs_keys.specs.Terms.{Id, Field}
 use Rattle.xs_keys.specs.ReplyParts.{entry_reply, present_reply}
 
@@ -17,24 +16,6 @@ Entries = List (Id × List Field)
 map-found : (entries fs : Entries) → AreEntriesOf entries fs → map present_reply fs ≡ map (entry_reply entries) (ids_of fs)
 map-found entries [] found = refl
 map-found entries (f ∷ fs) found = rw found.0 (ap (λ rest. present_reply f ∷ rest) (map-found entries fs found.1))
-
--- ---- those within a range
-
-map-reverse : {X Y : Type 0} (f : X → Y) (xs : List X) → map f (reverse xs) ≡ reverse (map f xs)
-map-reverse f [] = refl
-map-reverse f (x ∷ xs) =
-    ap (map f) (reverse-append (x ∷ []) xs) ∙ map-append f (reverse xs) (x ∷ []) ∙ ap (λ front. front ++ f x ∷ []) (map-reverse f xs)
-    ∙ sym (reverse-append (f x ∷ []) (map f xs))
-
-all-ids : (range : Range) (reversed : Bool) (es : Entries) → ids_of (all_within range reversed es) ≡ ids_within range reversed es
-all-ids range false es = ids_of-filter (is_within range) es
-all-ids range true es =
-    map-reverse (λ (e : Id × List Field). e.0) (filter (λ e. is_within range e.0) es) ∙ ap reverse (ids_of-filter (is_within range) es)
-
-ids-within : (range : Range) (reversed : Bool) (limit : Option ℕ) (es : Entries) → ids_of (entries_within range reversed limit es) ≡ up_to_limit limit (ids_within range reversed es)
-ids-within range reversed None es = all-ids range reversed es
-ids-within range reversed (Some n) es =
-    sym (take-map (λ (e : Id × List Field). e.0) n (all_within range reversed es)) ∙ ap (take n) (all-ids range reversed es)
 
 -- the replies for the entries of a range
 pub lent-within : (range : Range) (reversed : Bool) (limit : Option ℕ) (es : Entries) → AreEntriesOf es (entries_within range reversed limit es)

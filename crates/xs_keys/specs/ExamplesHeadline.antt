@@ -1,7 +1,8 @@
 -- The relations of the headline and the contracts, by examples: each way in which an owner can change, how a life
 -- continues with what an event delivers, what is a reply to an event, and how an addition and the creation of a group
 -- can end. (Redis, XREADGROUP, XACK, XCLAIM, XADD and XGROUP CREATE.)
-use Rattle.std.specs.Prelude.{◌≡◌, ℕ, true, false, List, [], ◌∷◌, codes, Some, None}
+use Rattle.std.specs.Prelude.{◌≡◌, ℕ, true, false, List, [], ◌∷◌, codes, Some, None, Ok, Err}
+use Rattle.std.specs.declared.alloc.AllocError.{AllocError}
 use Rattle.xs_bytes.specs.SortedMap.{empty, insert}
 use Rattle.xs_stream.specs.declared.add.AddId.TheVariants as add
 use Rattle.xs_stream.specs.declared.add.AddError.TheVariants as add_error
@@ -85,18 +86,18 @@ creation = record { key = codes "s"; group = codes "g"; start = At (at 1 0); mak
 
 pub record Endings : Type 0 where
   pub added :
-      Adds stream 5 addition (id 2 0)
+      Adds stream 5 addition (Ok (id 2 0))
       (record {
         top = at 2 0;
         entries = (at 2 0, field (codes "f") (codes "v") ∷ []) ∷ [];
         added = 2;
         deleted = at 1 0;
       })
-  pub out_of_memory : Adds stream 5 addition (Error Memory) stream
+  pub out_of_memory : (error : AllocError) → Adds stream 5 addition (Err error) stream
   pub created :
-      Creates creation (at 3 0) empty (Simple Okay) (insert empty (codes "g") (new_group (at 1 0)))
+      Creates creation (at 3 0) empty (Ok (Simple Okay)) (insert empty (codes "g") (new_group (at 1 0)))
   pub there_already :
-      Creates creation (at 3 0) (insert empty (codes "g") (new_group (at 2 0))) (Error Busy)
+      Creates creation (at 3 0) (insert empty (codes "g") (new_group (at 2 0))) (Ok (Error Busy))
       (insert empty (codes "g") (new_group (at 2 0)))
-  pub not_created_without_memory : Creates creation (at 3 0) empty (Error Memory) empty
+  pub not_created_without_memory : (error : AllocError) → Creates creation (at 3 0) empty (Err error) empty
   pub memory_told_own : fault_of_addition add_error.Memory ≡ Memory

@@ -1,5 +1,6 @@
 -- One call: applied, or answered OOM.
-use Rattle.std.specs.Prelude.{◌≡◌, ℕ, Bool, true, false, ◌⊎◌, Some}
+use Rattle.std.specs.Prelude.{◌≡◌, ℕ, Bool, true, false, ◌⊎◌, Some, Result, Ok, Err}
+use Rattle.std.specs.declared.alloc.AllocError.{AllocError}
 use Rattle.xs_keys.specs.Terms.{Memory, Reply, Error, Command, Ping, Add, Scan}
 use Rattle.xs_keys.specs.Terms.{GroupCreate, ConsumerCreate, ReadGroup, Pending, PendingRows, Claim, AutoClaim, Inspect}
 use Rattle.xs_command.specs.declared.command.Inspection.TheVariants.{Stream, StreamInFull, Groups, Consumers}
@@ -34,6 +35,10 @@ pub record Applied (old : Content) (now : ℕ) (command : Command) (answer : Rep
   pub answer_is : answer ≡ reply old now command
   pub content_is : new ≡ content_after old now command
 
+-- the same at any moment: the command doesn't depend on the time
+abbrev pub AppliedAtAnyTime : Content → Command → Reply → Content → Type 0
+AppliedAtAnyTime old command answer new = (now : ℕ) → Applied old now command answer new
+
 -- memory ran out, for a command that takes some and that the model doesn't refuse: nothing has changed
 pub record OutOfMemory (old : Content) (now : ℕ) (command : Command) (answer : Reply) (new : Content) : Type 0 where
   pub takes : takes_memory command ≡ true
@@ -44,14 +49,18 @@ pub record OutOfMemory (old : Content) (now : ℕ) (command : Command) (answer :
 abbrev pub Step : Content → ℕ → Command → Reply → Content → Type 0
 Step old now command answer new = Applied old now command answer new ⊎ OutOfMemory old now command answer new
 
--- the same with its arguments in another order: a moment, the content before, a command, its reply and the content
--- after
-abbrev pub StepAt : ℕ → Content → Command → Reply → Content → Type 0
-StepAt now old command answer new = Step old now command answer new
+-- one call whose result shows if memory ran out
+abbrev pub Attempt : Content → ℕ → Command → Result Reply AllocError → Content → Type 0
+Attempt old now command (Ok answer) new = Applied old now command answer new
+Attempt old now command (Err refused) new = OutOfMemory old now command (Error Memory) new
 
 -- the same at any moment: the command doesn't depend on the time
-abbrev pub StepAtAnyTime : Content → Command → Reply → Content → Type 0
-StepAtAnyTime old command answer new = (now : ℕ) → Step old now command answer new
+abbrev pub AttemptAtAnyTime : Content → Command → Result Reply AllocError → Content → Type 0
+AttemptAtAnyTime old command result new = (now : ℕ) → Attempt old now command result new
+
+-- a step with its arguments in another order: a moment, the content before, a command, its reply and the content after
+abbrev pub StepAt : ℕ → Content → Command → Reply → Content → Type 0
+StepAt now old command answer new = Step old now command answer new
 
 -- what is refused changes nothing: if the reply is an error, the content is unchanged
 abbrev pub IsUnchangedIfRefused : Content → ℕ → Command → Type 0

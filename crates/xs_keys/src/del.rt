@@ -2,7 +2,7 @@
 ghost use Rattle.std.specs.Prelude.{◌≡◌, ◌<◌, ◌^◌};
 ghost use Rattle.xs_keys.specs.ContentAfter.{without_keys};
 ghost use Rattle.xs_keys.specs.Reply.{existing_count};
-ghost use Rattle.xs_keys.specs.Step.{StepAtAnyTime};
+ghost use Rattle.xs_keys.specs.Step.{AppliedAtAnyTime};
 
 use crate::keys::Keys;
 use xs_bytes::{Bytes, List, U63};
@@ -24,7 +24,7 @@ fn remove_all(keys: &mut Keys, names: &[Bytes]) -> u64
 
 /// Removes keys with their groups. The reply is the number of those that existed, each counted once.
 pub fn delete(keys: &mut Keys, names: &List<Bytes>) -> Reply
-    ensures { StepAtAnyTime keys.old (Command.DropKeys names.now) result keys.new }
+    ensures { AppliedAtAnyTime keys.old (Command.DropKeys names.now) result keys.new }
 {
     Reply::Int(U63::new(remove_all(keys, names.as_slice())))
 }

@@ -1,11 +1,11 @@
 //! EXISTS, TYPE and DBSIZE, and XINFO.
 ghost use Rattle.std.specs.Prelude.{◌≡◌, ◌<◌, ◌^◌};
 ghost use Rattle.xs_keys.specs.InspectionReply.{existing};
-ghost use Rattle.xs_keys.specs.Step.{Step};
+ghost use Rattle.xs_keys.specs.Step.{Attempt};
 
 use crate::keys::Keys;
 use crate::{xinfo, xinfo_full};
-use std::alloc::Global;
+use std::alloc::{AllocError, Global};
 use xs_bytes::{Bytes, U63};
 use xs_command::{Command, Inspection};
 use xs_resp::{Reply, Simple};
@@ -25,8 +25,13 @@ fn count_existing(keys: &Keys, names: &[Bytes]) -> usize
 }
 
 /// The reply to a question about the content, which doesn't change it.
-pub fn inspect(keys: &Keys, alloc: Global, now: Moment, inspection: &Inspection) -> Reply
-    ensures { Step keys.now now (Command.Inspect inspection.now) result keys.now }
+pub fn inspect(
+    keys: &Keys,
+    alloc: Global,
+    now: Moment,
+    inspection: &Inspection,
+) -> Result<Reply, AllocError>
+    ensures { Attempt keys.now now (Command.Inspect inspection.now) result keys.now }
 {
     match inspection {
         Inspection::Stream { key } => xinfo::stream(keys, alloc, key),
@@ -37,12 +42,12 @@ pub fn inspect(keys: &Keys, alloc: Global, now: Moment, inspection: &Inspection)
         Inspection::Consumers { key, group } => xinfo::consumers(keys, alloc, now, key, group),
         Inspection::Existence { keys: names } => {
             let count = count_existing(keys, names.as_slice()) as u64;
-            Reply::Int(U63::new(count.min(U63::MAX)))
+            Ok(Reply::Int(U63::new(count.min(U63::MAX))))
         }
         Inspection::KeyType { key } => match keys.get(key) {
-            Some(_) => Reply::Simple(Simple::Stream),
-            None => Reply::Simple(Simple::Nothing),
+            Some(_) => Ok(Reply::Simple(Simple::Stream)),
+            None => Ok(Reply::Simple(Simple::Nothing)),
         },
-        Inspection::KeyCount => Reply::Int(U63::new(keys.len() as u64)),
+        Inspection::KeyCount => Ok(Reply::Int(U63::new(keys.len() as u64))),
     }
 }

@@ -5,7 +5,7 @@ ghost use Rattle.xs_command.specs.WellFormed.{IsWellFormed};
 ghost use Rattle.xs_keys.specs.Headline.{RunsOn};
 ghost use Rattle.xs_keys.specs.KeysRoom.{key_state_of};
 ghost use Rattle.xs_keys.specs.NextName.{is_past_names};
-ghost use Rattle.xs_keys.specs.Step.{Step};
+ghost use Rattle.xs_keys.specs.Step.{Attempt, Step};
 
 use crate::keys::{Keys, Slot};
 use crate::reserve::{Reserve, reply_bytes};
@@ -132,19 +132,14 @@ impl Keyspace {
         ensures { Step self.old now command.now result self.new }
     {
         self.reserve.take_back(self.alloc);
-        let reply = apply_to(&mut self.keys, &mut self.reserve, self.alloc, now, command);
-        if is_out_of_memory(&reply) && !grows(command) && self.reserve.give_back(self.alloc) {
-            return apply_to(&mut self.keys, &mut self.reserve, self.alloc, now, command);
+        let mut attempt = apply_to(&mut self.keys, &mut self.reserve, self.alloc, now, command);
+        if attempt.is_err() && !grows(command) && self.reserve.give_back(self.alloc) {
+            attempt = apply_to(&mut self.keys, &mut self.reserve, self.alloc, now, command);
         }
-        reply
-    }
-
-    /// Applies one command that isn't needed any more, like `apply`.
-    pub fn apply_owned(&mut self, now: Moment, command: Command) -> Reply
-        requires { IsWellFormed command }
-        ensures { Step self.old now command result self.new }
-    {
-        self.apply(now, &command)
+        match attempt {
+            Ok(reply) => reply,
+            Err(AllocError) => Reply::Error(Fault::Memory),
+        }
     }
 
     /// Whether the reply to a read would be the null array, so the read may wait.
@@ -181,13 +176,6 @@ impl Keyspace {
     }
 }
 
-/// Whether memory was refused.
-fn is_out_of_memory(reply: &Reply) -> bool
-    ensures { result ≡ true → reply.now ≡ Reply.Error Fault.Memory }
-{
-    matches!(reply, Reply::Error(Fault::Memory))
-}
-
 /// Whether the command adds what stays until it is removed, as producers do.
 fn grows(command: &Command) -> bool {
     matches!(command, Command::Add(_) | Command::GroupCreate(_))
@@ -200,20 +188,20 @@ fn apply_to(
     alloc: Global,
     now: Moment,
     command: &Command,
-) -> Reply
+) -> Result<Reply, AllocError>
     requires { IsWellFormed command.now }
-    ensures { Step keys.old now command.now result keys.new }
+    ensures { Attempt keys.old now command.now result keys.new }
 {
     match command {
         Command::Ping(message) => ping::ping(alloc, message),
-        Command::Quit => Reply::Simple(Simple::Okay),
+        Command::Quit => Ok(Reply::Simple(Simple::Okay)),
         Command::Add(command) => xadd::add(keys, reserve, alloc, now, command),
-        Command::Delete { key, ids } => xdel::delete(keys, key, ids),
-        Command::TrimTo { key, trim } => xtrim::trim(keys, key, *trim),
-        Command::Len { key } => xlen::len(keys, key),
+        Command::Delete { key, ids } => Ok(xdel::delete(keys, key, ids)),
+        Command::TrimTo { key, trim } => Ok(xtrim::trim(keys, key, *trim)),
+        Command::Len { key } => Ok(xlen::len(keys, key)),
         Command::Scan(command) => xrange::range(keys, alloc, command),
         Command::GroupCreate(command) => xgroup::create(keys, reserve, alloc, command),
-        Command::GroupDestroy { key, group } => xgroup::destroy(keys, key, group),
+        Command::GroupDestroy { key, group } => Ok(xgroup::destroy(keys, key, group)),
         Command::ConsumerCreate {
             key,
             group,
@@ -223,14 +211,14 @@ fn apply_to(
             key,
             group,
             consumer,
-        } => xgroup::delete_consumer(keys, key, group, consumer),
+        } => Ok(xgroup::delete_consumer(keys, key, group, consumer)),
         Command::ReadGroup(command) => xreadgroup::read(keys, alloc, now, command),
-        Command::Ack { key, group, ids } => xack::acknowledge(keys, key, group, ids),
+        Command::Ack { key, group, ids } => Ok(xack::acknowledge(keys, key, group, ids)),
         Command::Pending { key, group } => xpending::summary(keys, alloc, key, group),
         Command::PendingRows(command) => xpending::rows(keys, alloc, now, command),
         Command::Claim(command) => xclaim::claim(keys, alloc, now, command),
         Command::AutoClaim(command) => xautoclaim::claim(keys, alloc, now, command),
-        Command::DropKeys { keys: names } => del::delete(keys, names),
+        Command::DropKeys { keys: names } => Ok(del::delete(keys, names)),
         Command::Inspect(inspection) => inspect::inspect(keys, alloc, now, inspection),
     }
 }

@@ -10,6 +10,7 @@ mod inspect;
 pub mod keys;
 pub mod keyspace;
 pub mod laws;
+mod let_group;
 pub mod name_map;
 mod ping;
 mod reserve;

@@ -9,7 +9,7 @@ ghost use Rattle.xs_keys.specs.Life.{add_entry};
 ghost use Rattle.xs_keys.specs.ContentAfter.{stream_after};
 ghost use Rattle.xs_keys.specs.Adding.{text_of, Adds};
 ghost use Rattle.xs_keys.specs.ReplyParts.{fault_of_addition};
-ghost use Rattle.xs_keys.specs.Step.{Step};
+ghost use Rattle.xs_keys.specs.Step.{Attempt};
 
 use crate::account::{Account, NoMemory};
 use crate::keys::{Keys, Slot};
@@ -103,15 +103,14 @@ fn try_add(
     Ok(text)
 }
 
-/// The error of a refused addition.
-fn fault_of_refusal(refusal: NotAdded) -> Fault
-    ensures id { (error : AddError) → refusal ≡ NotAdded.Id error → result ≡ fault_of_addition error }
-    ensures memory { (why : NoMemory) → refusal ≡ NotAdded.Memory why → result ≡ Fault.Memory }
+/// The error of an entry that can't have an id.
+fn fault_of_addition(error: AddError) -> Fault
+    ensures { result ≡ fault_of_addition error }
 {
-    match refusal {
-        NotAdded::Id(AddError::Small) => Fault::SmallId,
-        NotAdded::Id(AddError::Exhausted) => Fault::Exhausted,
-        NotAdded::Id(AddError::Memory) | NotAdded::Memory(_) => Fault::Memory,
+    match error {
+        AddError::Small => Fault::SmallId,
+        AddError::Exhausted => Fault::Exhausted,
+        AddError::Memory => Fault::Memory,
     }
 }
 
@@ -123,7 +122,7 @@ fn add_to(
     stream: &mut Stream,
     now: Moment,
     add: &AddCommand,
-) -> Reply
+) -> Result<Reply, AllocError>
     ensures adds { Adds (state_of stream.old) now add.now result (state_of stream.new) }
     ensures counted { (account.new.held + stream.old.room) % 2 ^ 128
         ≡ (account.old.held + stream.new.room) % 2 ^ 128 }
@@ -132,8 +131,9 @@ fn add_to(
     let added = try_add(reserve, account, alloc, stream, now, add);
     account.change(before, stream.room());
     match added {
-        Ok(text) => Reply::Bulk(text),
-        Err(refusal) => Reply::Error(fault_of_refusal(refusal)),
+        Ok(text) => Ok(Reply::Bulk(text)),
+        Err(NotAdded::Id(error)) => Ok(Reply::Error(fault_of_addition(error))),
+        Err(NotAdded::Memory(_)) => Err(AllocError),
     }
 }
 
@@ -144,26 +144,22 @@ fn add_missing(
     alloc: Global,
     now: Moment,
     add: &AddCommand,
-) -> Reply
+) -> Result<Reply, AllocError>
     requires missing { map.get keys.old add.now.key ≡ None }
     requires well_formed { IsAddId add.now.id }
-    ensures { Step keys.old now (Command.Add add.now) result keys.new }
+    ensures { Attempt keys.old now (Command.Add add.now) result keys.new }
 {
     if !add.make {
-        return Reply::NullBulk;
+        return Ok(Reply::NullBulk);
     }
-    let Ok(key) = Bytes::from_slice(alloc, add.key.as_slice()) else {
-        return Reply::Error(Fault::Memory);
-    };
+    let key = Bytes::from_slice(alloc, add.key.as_slice())?;
     let mut stream = Stream::new(alloc);
     let Ok(text) = try_add(reserve, &keys.account, alloc, &mut stream, now, add) else {
-        return Reply::Error(Fault::Memory);
+        return Err(AllocError);
     };
     let groups = NameMap::new(alloc);
-    match keys.insert(key, Slot { stream, groups }) {
-        Ok(()) => Reply::Bulk(text),
-        Err(AllocError) => Reply::Error(Fault::Memory),
-    }
+    keys.insert(key, Slot { stream, groups })?;
+    Ok(Reply::Bulk(text))
 }
 
 /// Adds an entry to the stream of a key.
@@ -173,9 +169,9 @@ pub fn add(
     alloc: Global,
     now: Moment,
     add: &AddCommand,
-) -> Reply
+) -> Result<Reply, AllocError>
     requires { IsAddId add.now.id }
-    ensures { Step keys.old now (Command.Add add.now) result keys.new }
+    ensures { Attempt keys.old now (Command.Add add.now) result keys.new }
 {
     match keys.slots.get_mut(&add.key) {
         Some(slot) => add_to(

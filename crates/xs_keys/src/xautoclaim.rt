@@ -6,9 +6,10 @@ ghost use Rattle.xs_keys.specs.GroupAsk.{auto_claim};
 ghost use Rattle.xs_keys.specs.ContentAfter.{group_after};
 ghost use Rattle.xs_resp.specs.ReplyItems.{tokens_of};
 ghost use Rattle.xs_keys.specs.ReplyParts.{array, id_reply, scan_reply, taken_reply};
-ghost use Rattle.xs_keys.specs.Step.{Step};
+ghost use Rattle.xs_keys.specs.Step.{Attempt};
 
 use crate::keys::Keys;
+use crate::let_group::let_group;
 use crate::showing::{push_entries, push_id, push_ids};
 use std::alloc::{AllocError, Global};
 use xs_command::{AutoClaimCommand, Command};
@@ -89,20 +90,20 @@ fn claim_in(
 }
 
 /// Claims entries of a group from a start upwards.
-pub fn claim(keys: &mut Keys, alloc: Global, now: Moment, command: &AutoClaimCommand) -> Reply
-    ensures { Step keys.old now (Command.AutoClaim command.now) result keys.new }
+pub fn claim(
+    keys: &mut Keys,
+    alloc: Global,
+    now: Moment,
+    command: &AutoClaimCommand,
+) -> Result<Reply, AllocError>
+    ensures { Attempt keys.old now (Command.AutoClaim command.now) result keys.new }
 {
-    let Some(slot) = keys.slots.get_mut(&command.key) else {
-        return Reply::Error(Fault::NoGroup);
-    };
-    let Some(group) = slot.groups.get_mut(&command.group) else {
-        return Reply::Error(Fault::NoGroup);
-    };
+    let_group!(
+        slot, group = keys, &command.key, &command.group,
+        else { return Ok(Reply::Error(Fault::NoGroup)) }
+    );
     let before = group.room();
     let claimed = claim_in(group, alloc, &slot.stream, now, command);
     keys.account.change(before, group.room());
-    match claimed {
-        Ok(reply) => reply,
-        Err(AllocError) => Reply::Error(Fault::Memory),
-    }
+    claimed
 }

@@ -5,9 +5,10 @@ ghost use Rattle.xs_group.specs.Claims as claims;
 ghost use Rattle.xs_keys.specs.GroupAsk.{claim};
 ghost use Rattle.xs_keys.specs.ContentAfter.{group_after};
 ghost use Rattle.xs_keys.specs.ReplyParts.{array, id_reply, taken_reply};
-ghost use Rattle.xs_keys.specs.Step.{Step};
+ghost use Rattle.xs_keys.specs.Step.{Attempt};
 
 use crate::keys::Keys;
+use crate::let_group::let_group;
 use crate::showing::{entries_shown, push_ids};
 use std::alloc::{AllocError, Global};
 use xs_command::{ClaimCommand, Command};
@@ -63,20 +64,20 @@ fn claim_in(
 }
 
 /// Claims entries of a group by their ids.
-pub fn claim(keys: &mut Keys, alloc: Global, now: Moment, command: &ClaimCommand) -> Reply
-    ensures { Step keys.old now (Command.Claim command.now) result keys.new }
+pub fn claim(
+    keys: &mut Keys,
+    alloc: Global,
+    now: Moment,
+    command: &ClaimCommand,
+) -> Result<Reply, AllocError>
+    ensures { Attempt keys.old now (Command.Claim command.now) result keys.new }
 {
-    let Some(slot) = keys.slots.get_mut(&command.key) else {
-        return Reply::Error(Fault::NoGroup);
-    };
-    let Some(group) = slot.groups.get_mut(&command.group) else {
-        return Reply::Error(Fault::NoGroup);
-    };
+    let_group!(
+        slot, group = keys, &command.key, &command.group,
+        else { return Ok(Reply::Error(Fault::NoGroup)) }
+    );
     let before = group.room();
     let claimed = claim_in(group, alloc, &slot.stream, now, command);
     keys.account.change(before, group.room());
-    match claimed {
-        Ok(reply) => reply,
-        Err(AllocError) => Reply::Error(Fault::Memory),
-    }
+    claimed
 }

@@ -1,5 +1,5 @@
 //! XDEL.
-ghost use Rattle.xs_keys.specs.Step.{StepAtAnyTime};
+ghost use Rattle.xs_keys.specs.Step.{AppliedAtAnyTime};
 
 use crate::keys::Keys;
 use xs_bytes::{Bytes, U63};
@@ -9,7 +9,7 @@ use xs_stream::Id;
 
 /// Removes entries of a key. The reply is the number of those that existed.
 pub fn delete(keys: &mut Keys, key: &Bytes, ids: &Operands<Id>) -> Reply
-    ensures { StepAtAnyTime keys.old (Command.Delete key.now ids.now) result keys.new }
+    ensures { AppliedAtAnyTime keys.old (Command.Delete key.now ids.now) result keys.new }
 {
     match keys.slots.get_mut(key) {
         Some(slot) => {

@@ -7,10 +7,11 @@ ghost use Rattle.xs_group.specs.GroupState.{new_group, has_name, with_consumer};
 ghost use Rattle.xs_keys.specs.ContentAfter.{new_key, with_group};
 ghost use Rattle.xs_keys.specs.GroupLife.{starting_id};
 ghost use Rattle.xs_keys.specs.Grouping.{Creates};
-ghost use Rattle.xs_keys.specs.Step.{Step, StepAtAnyTime};
+ghost use Rattle.xs_keys.specs.Step.{AppliedAtAnyTime, Attempt, AttemptAtAnyTime};
 
 use crate::account::{Account, NoMemory};
 use crate::keys::{Groups, Keys, Slot};
+use crate::let_group::let_group;
 use crate::name_map::NameMap;
 use crate::reserve::Reserve;
 use std::alloc::{AllocError, Global};
@@ -104,21 +105,19 @@ fn create_in(
     alloc: Global,
     top: Id,
     command: &GroupCreateCommand,
-) -> Reply
+) -> Result<Reply, AllocError>
     ensures creates { Creates command.now top groups.old result groups.new }
     ensures counted { (account.new.held + room_of_named room_of_group groups.old.entries) % 2 ^ 128
         ≡ (account.old.held + room_of_named room_of_group groups.new.entries) % 2 ^ 128 }
 {
     if groups.contains_key(&command.group) {
-        return Reply::Error(Fault::Busy);
+        return Ok(Reply::Error(Fault::Busy));
     }
-    match insert_group(groups, reserve, account, alloc, top, command) {
-        Ok(room) => {
-            account.change(0, room);
-            Reply::Simple(Simple::Okay)
-        }
-        Err(_) => Reply::Error(Fault::Memory),
-    }
+    let Ok(room) = insert_group(groups, reserve, account, alloc, top, command) else {
+        return Err(AllocError);
+    };
+    account.change(0, room);
+    Ok(Reply::Simple(Simple::Okay))
 }
 
 /// Creates a group of a key that doesn't exist, and the key with it if the command may.
@@ -127,16 +126,16 @@ fn create_missing(
     reserve: &mut Reserve,
     alloc: Global,
     command: &GroupCreateCommand,
-) -> Reply
+) -> Result<Reply, AllocError>
     requires { get keys.old command.now.key ≡ None }
-    ensures { StepAtAnyTime keys.old (Command.GroupCreate command.now) result keys.new }
+    ensures { AttemptAtAnyTime keys.old (Command.GroupCreate command.now) result keys.new }
 {
     if !command.make {
-        return Reply::Error(Fault::NoKey);
+        return Ok(Reply::Error(Fault::NoKey));
     }
     match insert_key(keys, reserve, alloc, command) {
-        Ok(()) => Reply::Simple(Simple::Okay),
-        Err(_) => Reply::Error(Fault::Memory),
+        Ok(()) => Ok(Reply::Simple(Simple::Okay)),
+        Err(_) => Err(AllocError),
     }
 }
 
@@ -146,8 +145,8 @@ pub fn create(
     reserve: &mut Reserve,
     alloc: Global,
     command: &GroupCreateCommand,
-) -> Reply
-    ensures { StepAtAnyTime keys.old (Command.GroupCreate command.now) result keys.new }
+) -> Result<Reply, AllocError>
+    ensures { AttemptAtAnyTime keys.old (Command.GroupCreate command.now) result keys.new }
 {
     match keys.slots.get_mut(&command.key) {
         Some(slot) => {
@@ -174,7 +173,7 @@ fn one_where(is: bool) -> Reply
 
 /// XGROUP DESTROY.
 pub fn destroy(keys: &mut Keys, key: &Bytes, group: &Bytes) -> Reply
-    ensures { StepAtAnyTime keys.old (Command.GroupDestroy key.now group.now) result keys.new }
+    ensures { AppliedAtAnyTime keys.old (Command.GroupDestroy key.now group.now) result keys.new }
 {
     match keys.slots.get_mut(key) {
         Some(slot) => {
@@ -219,34 +218,32 @@ pub fn create_consumer(
     key: &Bytes,
     group: &Bytes,
     consumer: &Bytes,
-) -> Reply
-    ensures { Step keys.old now (Command.ConsumerCreate key.now group.now consumer.now) result keys.new }
+) -> Result<Reply, AllocError>
+    ensures { Attempt keys.old now (Command.ConsumerCreate key.now group.now consumer.now) result keys.new }
 {
-    let Some(slot) = keys.slots.get_mut(key) else {
-        return Reply::Error(Fault::NoKey);
-    };
-    let Some(group) = slot.groups.get_mut(group) else {
-        return Reply::Error(Fault::NoGroup);
-    };
+    let_group!(
+        slot, group = keys, key, group,
+        else { return Ok(Reply::Error(Fault::NoKey)) },
+        else { return Ok(Reply::Error(Fault::NoGroup)) }
+    );
     let before = group.room();
     let added = add_consumer(&keys.account, alloc, now, group, consumer);
     keys.account.change(before, group.room());
     match added {
-        Ok(made) => one_where(made),
-        Err(_) => Reply::Error(Fault::Memory),
+        Ok(made) => Ok(one_where(made)),
+        Err(_) => Err(AllocError),
     }
 }
 
 /// XGROUP DELCONSUMER.
 pub fn delete_consumer(keys: &mut Keys, key: &Bytes, group: &Bytes, consumer: &Bytes) -> Reply
-    ensures { StepAtAnyTime keys.old (Command.ConsumerDelete key.now group.now consumer.now) result keys.new }
+    ensures { AppliedAtAnyTime keys.old (Command.ConsumerDelete key.now group.now consumer.now) result keys.new }
 {
-    let Some(slot) = keys.slots.get_mut(key) else {
-        return Reply::Error(Fault::NoKey);
-    };
-    let Some(group) = slot.groups.get_mut(group) else {
-        return Reply::Error(Fault::NoGroup);
-    };
+    let_group!(
+        slot, group = keys, key, group,
+        else { return Reply::Error(Fault::NoKey) },
+        else { return Reply::Error(Fault::NoGroup) }
+    );
     let before = group.room();
     let count = group.remove_consumer(consumer);
     keys.account.change(before, group.room());

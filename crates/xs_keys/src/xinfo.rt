@@ -11,7 +11,7 @@ ghost use Rattle.xs_keys.specs.ReplyParts.{array};
 ghost use Rattle.xs_keys.specs.Inspecting.{size_part, past_part, ends_part, end_reply, end_id, stream_reply};
 ghost use Rattle.xs_keys.specs.Inspecting.{members_part, lag_of, read_reply, progress_part, group_reply, groups_reply};
 ghost use Rattle.xs_keys.specs.Inspecting.{consumer_reply, consumers_reply};
-ghost use Rattle.xs_keys.specs.Step.{Step, StepAtAnyTime};
+ghost use Rattle.xs_keys.specs.Step.{Attempt, AttemptAtAnyTime};
 
 use crate::keys::{Keys, Slot};
 use crate::showing::{push_id, push_present};
@@ -130,16 +130,13 @@ fn groups_shown(alloc: Global, slot: &Slot) -> Result<Reply, AllocError>
 }
 
 /// XINFO GROUPS.
-pub fn groups(keys: &Keys, alloc: Global, key: &Bytes) -> Reply
-    ensures { StepAtAnyTime keys.now (Command.Inspect (OfGroups key.now)) result keys.now }
+pub fn groups(keys: &Keys, alloc: Global, key: &Bytes) -> Result<Reply, AllocError>
+    ensures { AttemptAtAnyTime keys.now (Command.Inspect (OfGroups key.now)) result keys.now }
 {
     let Some(slot) = keys.get(key) else {
-        return Reply::Error(Fault::MissingKey);
+        return Ok(Reply::Error(Fault::MissingKey));
     };
-    match groups_shown(alloc, slot) {
-        Ok(reply) => reply,
-        Err(AllocError) => Reply::Error(Fault::Memory),
-    }
+    groups_shown(alloc, slot)
 }
 
 /// The number of tokens of a consumer.
@@ -187,19 +184,22 @@ fn consumers_of(alloc: Global, now: Moment, group: &Group) -> Result<Reply, Allo
 }
 
 /// XINFO CONSUMERS.
-pub fn consumers(keys: &Keys, alloc: Global, now: Moment, key: &Bytes, name: &Bytes) -> Reply
-    ensures { Step keys.now now (Command.Inspect (OfConsumers key.now name.now)) result keys.now }
+pub fn consumers(
+    keys: &Keys,
+    alloc: Global,
+    now: Moment,
+    key: &Bytes,
+    name: &Bytes,
+) -> Result<Reply, AllocError>
+    ensures { Attempt keys.now now (Command.Inspect (OfConsumers key.now name.now)) result keys.now }
 {
     let Some(slot) = keys.get(key) else {
-        return Reply::Error(Fault::MissingKey);
+        return Ok(Reply::Error(Fault::MissingKey));
     };
     let Some(group) = slot.groups.get(name) else {
-        return Reply::Error(Fault::NoGroup);
+        return Ok(Reply::Error(Fault::NoGroup));
     };
-    match consumers_of(alloc, now, group) {
-        Ok(reply) => reply,
-        Err(AllocError) => Reply::Error(Fault::Memory),
-    }
+    consumers_of(alloc, now, group)
 }
 
 /// Appends the first entry or the last one, or the null string if there is none.
@@ -286,14 +286,11 @@ fn stream_shown(alloc: Global, slot: &Slot) -> Result<Reply, AllocError>
 }
 
 /// XINFO STREAM.
-pub fn stream(keys: &Keys, alloc: Global, key: &Bytes) -> Reply
-    ensures { StepAtAnyTime keys.now (Command.Inspect (OfStream key.now)) result keys.now }
+pub fn stream(keys: &Keys, alloc: Global, key: &Bytes) -> Result<Reply, AllocError>
+    ensures { AttemptAtAnyTime keys.now (Command.Inspect (OfStream key.now)) result keys.now }
 {
     let Some(slot) = keys.get(key) else {
-        return Reply::Error(Fault::MissingKey);
+        return Ok(Reply::Error(Fault::MissingKey));
     };
-    match stream_shown(alloc, slot) {
-        Ok(reply) => reply,
-        Err(AllocError) => Reply::Error(Fault::Memory),
-    }
+    stream_shown(alloc, slot)
 }

@@ -10,7 +10,7 @@ ghost use Rattle.xs_keys.specs.ReplyParts.{present_reply};
 ghost use Rattle.xs_keys.specs.InspectingInFull.{row_reply, own_row_reply, rows_part, consumer_part, listed_part};
 ghost use Rattle.xs_keys.specs.InspectingInFull.{most_of, first_rows, whole_consumer_reply, whole_group_reply};
 ghost use Rattle.xs_keys.specs.InspectingInFull.{whole_stream_reply};
-ghost use Rattle.xs_keys.specs.Step.{Step};
+ghost use Rattle.xs_keys.specs.Step.{Attempt};
 
 use crate::keys::{Keys, Slot};
 use crate::showing::{push_id, push_lent_entries};
@@ -240,19 +240,22 @@ fn stream_shown(asked: &Asked, slot: &Slot) -> Result<Reply, AllocError>
 }
 
 /// XINFO STREAM with FULL.
-pub fn stream(keys: &Keys, alloc: Global, now: Moment, key: &Bytes, limit: Option<u64>) -> Reply
-    ensures { Step keys.now now (Command.Inspect (StreamInFull key.now limit)) result keys.now }
+pub fn stream(
+    keys: &Keys,
+    alloc: Global,
+    now: Moment,
+    key: &Bytes,
+    limit: Option<u64>,
+) -> Result<Reply, AllocError>
+    ensures { Attempt keys.now now (Command.Inspect (StreamInFull key.now limit)) result keys.now }
 {
     let Some(slot) = keys.get(key) else {
-        return Reply::Error(Fault::MissingKey);
+        return Ok(Reply::Error(Fault::MissingKey));
     };
     let asked = Asked {
         alloc,
         moment: now,
         limit,
     };
-    match stream_shown(&asked, slot) {
-        Ok(reply) => reply,
-        Err(AllocError) => Reply::Error(Fault::Memory),
-    }
+    stream_shown(&asked, slot)
 }

@@ -5,7 +5,7 @@ ghost use Rattle.std.specs.Option.{option_map_or};
 ghost use Rattle.xs_group.specs.Report as report;
 ghost use Rattle.xs_resp.specs.ReplyItems.{tokens_of};
 ghost use Rattle.xs_keys.specs.ReplyParts.{array, array_or_null, id_reply, owner_reply, row_reply, summary_reply};
-ghost use Rattle.xs_keys.specs.Step.{Step, StepAtAnyTime};
+ghost use Rattle.xs_keys.specs.Step.{Attempt, AttemptAtAnyTime};
 
 use crate::keys::{Keys, group_at};
 use crate::showing::push_id;
@@ -123,16 +123,13 @@ fn summary_of(alloc: Global, group: &Group) -> Result<Reply, AllocError>
 }
 
 /// XPENDING, the short form.
-pub fn summary(keys: &Keys, alloc: Global, key: &Bytes, group: &Bytes) -> Reply
-    ensures { StepAtAnyTime keys.now (Command.Pending key.now group.now) result keys.now }
+pub fn summary(keys: &Keys, alloc: Global, key: &Bytes, group: &Bytes) -> Result<Reply, AllocError>
+    ensures { AttemptAtAnyTime keys.now (Command.Pending key.now group.now) result keys.now }
 {
     let Some(group) = group_at(keys, key, group) else {
-        return Reply::Error(Fault::NoGroup);
+        return Ok(Reply::Error(Fault::NoGroup));
     };
-    match summary_of(alloc, group) {
-        Ok(reply) => reply,
-        Err(AllocError) => Reply::Error(Fault::Memory),
-    }
+    summary_of(alloc, group)
 }
 
 /// The pending entries of a group that a command asks for.
@@ -158,14 +155,16 @@ fn rows_of(
 }
 
 /// XPENDING, the long form.
-pub fn rows(keys: &Keys, alloc: Global, now: Moment, command: &PendingRowsCommand) -> Reply
-    ensures { Step keys.now now (Command.PendingRows command.now) result keys.now }
+pub fn rows(
+    keys: &Keys,
+    alloc: Global,
+    now: Moment,
+    command: &PendingRowsCommand,
+) -> Result<Reply, AllocError>
+    ensures { Attempt keys.now now (Command.PendingRows command.now) result keys.now }
 {
     let Some(group) = group_at(keys, &command.key, &command.group) else {
-        return Reply::Error(Fault::NoGroup);
+        return Ok(Reply::Error(Fault::NoGroup));
     };
-    match rows_of(alloc, group, now, command) {
-        Ok(reply) => reply,
-        Err(AllocError) => Reply::Error(Fault::Memory),
-    }
+    rows_of(alloc, group, now, command)
 }

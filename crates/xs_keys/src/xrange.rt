@@ -2,13 +2,13 @@
 ghost use Rattle.std.specs.Prelude.{◌≡◌, IfOk};
 ghost use Rattle.xs_stream.specs.StreamContent.{up_to_limit, ids_within};
 ghost use Rattle.xs_keys.specs.ReplyParts.{entries_reply};
-ghost use Rattle.xs_keys.specs.Step.{StepAtAnyTime};
+ghost use Rattle.xs_keys.specs.Step.{AttemptAtAnyTime};
 
 use crate::keys::Keys;
 use crate::showing::lent_entries;
 use std::alloc::{AllocError, Global};
 use xs_command::{Command, RangeCommand};
-use xs_resp::{Fault, Replies, Reply, Tokens};
+use xs_resp::{Replies, Reply, Tokens};
 use xs_stream::Stream;
 
 /// The entries of a range of a stream.
@@ -22,14 +22,11 @@ fn range_shown(alloc: Global, stream: &Stream, command: &RangeCommand) -> Result
 }
 
 /// The entries of a range of a key.
-pub fn range(keys: &Keys, alloc: Global, command: &RangeCommand) -> Reply
-    ensures { StepAtAnyTime keys.now (Command.Scan command.now) result keys.now }
+pub fn range(keys: &Keys, alloc: Global, command: &RangeCommand) -> Result<Reply, AllocError>
+    ensures { AttemptAtAnyTime keys.now (Command.Scan command.now) result keys.now }
 {
     let Some(slot) = keys.get(&command.key) else {
-        return Reply::Array(Replies::new(0, Tokens::new(alloc)));
+        return Ok(Reply::Array(Replies::new(0, Tokens::new(alloc))));
     };
-    match range_shown(alloc, &slot.stream, command) {
-        Ok(reply) => reply,
-        Err(AllocError) => Reply::Error(Fault::Memory),
-    }
+    range_shown(alloc, &slot.stream, command)
 }

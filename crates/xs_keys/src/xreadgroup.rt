@@ -2,7 +2,7 @@
 ghost use Rattle.std.specs.Prelude.{◌≡◌, ◌++◌, ◌==◌, true, is_some, map, length, IfOk, OnOk, OnErr};
 ghost use Rattle.std.specs.List.{flat_map};
 ghost use Rattle.xs_bytes.specs.SortedMap.{get};
-ghost use Rattle.xs_stream.specs.StreamContent.{ids_of};
+ghost use Rattle.xs_stream.specs.StreamContent.{ids_of, AreEntriesOf};
 ghost use Rattle.xs_group.specs.Deliveries.{IsMade, row_ids};
 ghost use Rattle.xs_keys.specs.GroupLife.{ask_of_read};
 ghost use Rattle.xs_keys.specs.Content.{Content};
@@ -11,16 +11,17 @@ ghost use Rattle.xs_resp.specs.ReplyItems.{tokens_of};
 ghost use Rattle.xs_keys.specs.ReplyParts.{array_or_null, entry_reply, stream_part};
 ghost use Rattle.xs_keys.specs.Reply.{parts};
 ghost use Rattle.xs_keys.specs.Reading.{ids_shown, part_of, IsShown, IsServedAt, IsMadeAt, AreMade, at_most_one};
-ghost use Rattle.xs_keys.specs.Step.{Step};
+ghost use Rattle.xs_keys.specs.Step.{Attempt};
 ghost use Rattle.xs_keys.specs.Waiting.{finds_none_in, finds_nothing};
 ghost use Rattle.xs_group.specs.GroupState.{new_ids};
 
 use crate::keys::{Keys, group_at};
+use crate::let_group::let_group;
 use crate::showing::{ENTRY_TOKENS, push_along};
 use std::alloc::{AllocError, Global};
 use xs_bytes::Bytes;
 use xs_command::{Command, ReadFrom, ReadGroupCommand, ReadOne};
-use xs_group::{Delivery, DeliveryRow, Group};
+use xs_group::{Delivery, Group, GroupRead};
 use xs_resp::{Fault, Replies, Reply, Tokens};
 use xs_stream::{Id, Moment, Stream};
 
@@ -32,18 +33,20 @@ pub struct Served {
 }
 
 /// Reads a group.
-fn read_group(
+fn read_group<'a>(
     group: &mut Group,
     alloc: Global,
-    stream: &Stream,
+    stream: &'a Stream,
     now: Moment,
     read: &ReadGroupCommand,
     from: ReadFrom,
-) -> Result<Delivery, AllocError>
+) -> Result<GroupRead<'a>, AllocError>
     ensures ok { OnOk result (group.new
         ≡ group_after now (ids_of stream.now.entries) (ask_of_read read.now from) group.old) }
-    ensures rows { IfOk result (λ d. row_ids d.rows ≡ ids_shown read.now from (ids_of stream.now.entries) group.old) }
-    ensures made { IfOk result (λ d. IsMade group.old group.new d) }
+    ensures rows { IfOk result (λ group_read. row_ids group_read.delivery.rows
+        ≡ ids_shown read.now from (ids_of stream.now.entries) group.old) }
+    ensures found { IfOk result (λ group_read. AreEntriesOf stream.now.entries group_read.entries) }
+    ensures made { IfOk result (λ group_read. IsMade group.old group.new group_read.delivery) }
     ensures err { OnErr result (group.new ≡ group.old) }
 {
     match from {
@@ -52,42 +55,42 @@ fn read_group(
     }
 }
 
-/// Appends the entries of these rows.
+/// Appends the entries of the rows of a read.
 fn push_rows(
     tokens: &mut Tokens,
     alloc: Global,
     stream: &Stream,
-    rows: &[DeliveryRow],
+    group_read: &GroupRead<'_>,
 ) -> Result<(), AllocError>
+    requires { AreEntriesOf stream.now.entries group_read.now.entries }
     ensures { OnOk result (tokens.new ≡ tokens.old
-        ++ flat_map tokens_of (map (entry_reply stream.now.entries) (row_ids rows.now))) }
+        ++ flat_map tokens_of (map (entry_reply stream.now.entries) (row_ids group_read.now.delivery.rows))) }
 {
-    let Some(first) = rows.first() else {
-        return Ok(());
-    };
+    let rows = group_read.delivery.rows.as_slice();
+    let lent = group_read.entries.as_slice();
     tokens.reserve(rows.len().saturating_mul(ENTRY_TOKENS))?;
-    let lent = stream.entries_from(alloc, first.id, rows.len())?;
     for (place, row) in rows.iter().enumerate() {
-        push_along(tokens, alloc, stream, lent.as_slice(), place, row.id)?;
+        push_along(tokens, alloc, stream, lent, place, row.id)?;
     }
     Ok(())
 }
 
-/// Appends a key, and the entries of these rows.
+/// Appends a key, and the entries of the rows of a read.
 fn push_stream(
     tokens: &mut Tokens,
     alloc: Global,
     stream: &Stream,
     key: &Bytes,
-    rows: &[DeliveryRow],
+    group_read: &GroupRead<'_>,
 ) -> Result<(), AllocError>
+    requires { AreEntriesOf stream.now.entries group_read.now.entries }
     ensures { OnOk result (tokens.new ≡ tokens.old
-        ++ tokens_of (stream_part key.now stream.now.entries (row_ids rows.now))) }
+        ++ tokens_of (stream_part key.now stream.now.entries (row_ids group_read.now.delivery.rows))) }
 {
     tokens.push_array(2)?;
     tokens.push_bulk(key.as_slice())?;
-    tokens.push_array(rows.len())?;
-    push_rows(tokens, alloc, stream, rows)
+    tokens.push_array(group_read.delivery.rows.len())?;
+    push_rows(tokens, alloc, stream, group_read)
 }
 
 /// Appends a read's part of the reply, and says how many parts that is: nothing new has none.
@@ -97,20 +100,16 @@ fn push_part(
     stream: &Stream,
     key: &Bytes,
     from: ReadFrom,
-    rows: &[DeliveryRow],
+    group_read: &GroupRead<'_>,
 ) -> Result<usize, AllocError>
-    ensures { let shown = part_of from key.now stream.now.entries (row_ids rows.now) in
+    requires { AreEntriesOf stream.now.entries group_read.now.entries }
+    ensures { let shown = part_of from key.now stream.now.entries (row_ids group_read.now.delivery.rows) in
         IfOk result (λ parts. IsShown shown parts tokens.old tokens.new) }
 {
-    match from {
-        ReadFrom::New => {
-            if rows.is_empty() {
-                return Ok(0);
-            }
-            push_stream(tokens, alloc, stream, key, rows)?;
-        }
-        ReadFrom::After(_) => push_stream(tokens, alloc, stream, key, rows)?,
+    if matches!(from, ReadFrom::New) && group_read.delivery.rows.is_empty() {
+        return Ok(0);
     }
+    push_stream(tokens, alloc, stream, key, group_read)?;
     Ok(1)
 }
 
@@ -128,22 +127,19 @@ fn serve_at(
     ensures ok { IfOk result (IsServedAt now read.now one.now keys.old keys.new tokens.old tokens.new) }
     ensures err { OnErr result (keys.new ≡ keys.old) }
 {
-    let Some(slot) = keys.slots.get_mut(&one.key) else {
-        unreachable!();
-    };
-    let Some(group) = slot.groups.get_mut(&read.group) else {
-        unreachable!();
-    };
+    let_group!(slot, group = keys, &one.key, &read.group, else { unreachable!() });
     let before = group.room();
-    let delivery = read_group(group, alloc, &slot.stream, now, read, one.from)?;
-    let rows = delivery.rows.as_slice();
-    match push_part(tokens, alloc, &slot.stream, &one.key, one.from, rows) {
+    let group_read = read_group(group, alloc, &slot.stream, now, read, one.from)?;
+    match push_part(tokens, alloc, &slot.stream, &one.key, one.from, &group_read) {
         Ok(parts) => {
             keys.account.change(before, group.room());
-            Ok(Served { delivery, parts })
+            Ok(Served {
+                delivery: group_read.delivery,
+                parts,
+            })
         }
         Err(error) => {
-            group.undo(delivery);
+            group.undo(group_read.delivery);
             Err(error)
         }
     }
@@ -154,12 +150,7 @@ fn undo_at(keys: &mut Keys, key: &Bytes, group: &Bytes, delivery: Delivery)
     requires { (before : Content) × IsMadeAt group.now key.now before keys.old delivery }
     ensures { (before : Content) → IsMadeAt group.now key.now before keys.old delivery → keys.new ≡ before }
 {
-    let Some(slot) = keys.slots.get_mut(key) else {
-        unreachable!();
-    };
-    let Some(group) = slot.groups.get_mut(group) else {
-        unreachable!();
-    };
+    let_group!(slot, group = keys, key, group, else { unreachable!() });
     let before = group.room();
     group.undo(delivery);
     keys.account.change(before, group.room());
@@ -223,16 +214,18 @@ fn all_there(keys: &Keys, read: &ReadGroupCommand) -> bool
 }
 
 /// XREADGROUP.
-pub fn read(keys: &mut Keys, alloc: Global, now: Moment, read: &ReadGroupCommand) -> Reply
-    ensures { Step keys.old now (Command.ReadGroup read.now) result keys.new }
+pub fn read(
+    keys: &mut Keys,
+    alloc: Global,
+    now: Moment,
+    read: &ReadGroupCommand,
+) -> Result<Reply, AllocError>
+    ensures { Attempt keys.old now (Command.ReadGroup read.now) result keys.new }
 {
     if !all_there(keys, read) {
-        return Reply::Error(Fault::NoGroup);
+        return Ok(Reply::Error(Fault::NoGroup));
     }
-    match serve_all(keys, alloc, now, read) {
-        Ok(reply) => reply,
-        Err(AllocError) => Reply::Error(Fault::Memory),
-    }
+    serve_all(keys, alloc, now, read)
 }
 
 /// One, unless the limit is zero: the first new entry says whether a read delivers any.
@@ -249,7 +242,6 @@ fn at_most_one(limit: Option<u64>) -> Option<u64>
 }
 
 /// Whether a read past this cursor would deliver nothing.
-#[tactic(auto, using(crate::proofs::NothingNew::first_decides))]
 fn has_none_past(
     stream: &Stream,
     alloc: Global,

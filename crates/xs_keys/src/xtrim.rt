@@ -1,5 +1,5 @@
 //! XTRIM.
-ghost use Rattle.xs_keys.specs.Step.{StepAtAnyTime};
+ghost use Rattle.xs_keys.specs.Step.{AppliedAtAnyTime};
 
 use crate::keys::Keys;
 use xs_bytes::{Bytes, U63};
@@ -9,7 +9,7 @@ use xs_stream::Trim;
 
 /// Trims the stream of a key. The reply is the number of entries that were removed.
 pub fn trim(keys: &mut Keys, key: &Bytes, trim: Trim) -> Reply
-    ensures { StepAtAnyTime keys.old (Command.TrimTo key.now trim) result keys.new }
+    ensures { AppliedAtAnyTime keys.old (Command.TrimTo key.now trim) result keys.new }
 {
     match keys.slots.get_mut(key) {
         Some(slot) => {

@@ -3,9 +3,7 @@ ghost use Rattle.std.specs.Prelude.{◌≡◌, [], ◌∷◌, ◌++◌, length, 
 ghost use Rattle.xs_resp.specs.Token as token;
 ghost use Rattle.xs_resp.specs.Marks.{token_in, tokens_in, string_length, strings_length};
 
-use crate::fault::Fault;
 use crate::mark::Mark;
-use crate::reply::Simple;
 use std::alloc::{AllocError, Global};
 use std::marker::Model;
 use xs_bytes::U63;
@@ -61,23 +59,7 @@ impl Tokens {
         self.strings.reserve(more.saturating_mul(STRING_ROOM))
     }
 
-    /// Appends a simple string. If memory runs out, nothing is appended, here and below.
-    pub fn push_simple(&mut self, simple: Simple) -> Result<(), AllocError>
-        ensures ok { OnOk result (self.new ≡ self.old ++ token.Simple simple ∷ []) }
-        ensures err { OnErr result (self.new ≡ self.old) }
-    {
-        self.push_mark(Mark::Simple(simple))
-    }
-
-    /// Appends an error.
-    pub fn push_error(&mut self, fault: Fault) -> Result<(), AllocError>
-        ensures ok { OnOk result (self.new ≡ self.old ++ token.Error fault ∷ []) }
-        ensures err { OnErr result (self.new ≡ self.old) }
-    {
-        self.push_mark(Mark::Error(fault))
-    }
-
-    /// Appends an integer.
+    /// Appends an integer. If memory runs out, nothing is appended, here and below.
     pub fn push_int(&mut self, number: U63) -> Result<(), AllocError>
         ensures ok { OnOk result (self.new ≡ self.old ++ token.Int number ∷ []) }
         ensures err { OnErr result (self.new ≡ self.old) }

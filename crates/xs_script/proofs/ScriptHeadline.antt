@@ -70,13 +70,13 @@ serves-more : (past : History) (line : List ℕ) (lines : List (List ℕ)) (out 
 serves-more past line lines out more next last answer None e said is rest = absurd said
 serves-more past line lines out more next last answer (Some request) e (Some command, said) is rest = record {
   served = record { now = request.0; asked = Some command; answer = answer } ∷ rest.served;
-  are_served = ((request.1, e, (said.0, tt)), rest.are_served);
+  are_served = ((request.1, e, said.0), rest.are_served);
   answers = (next, said.1, rest.answers);
   out_is = is ∙ ap (λ o. text answer ++ o) rest.out_is;
 }
 serves-more past line lines out more next last answer (Some request) e (None, said) is rest = record {
   served = record { now = request.0; asked = None; answer = answer } ∷ rest.served;
-  are_served = ((request.1, e, (refl, said.1)), rest.are_served);
+  are_served = ((request.1, e, said.1), rest.are_served);
   answers = subst (λ p. AreReplied p (events_of_lines rest.served) (answers_of_lines rest.served) last) said.0 rest.answers;
   out_is = is ∙ ap (λ o. text answer ++ o) rest.out_is;
 }

@@ -7,15 +7,19 @@ use Rattle.xs_resp.specs.declared.reply.Reply.TheVariants.{Error}
 use Rattle.xs_command.specs.declared.command.Command.{Command}
 use Rattle.xs_command.specs.Read.{command_of_words}
 
--- the words are a command, which is asked and replied to; or nothing is asked, because they have a fault or memory ran
--- out
+-- the words are this command, which is asked; or nothing is asked, and the answer reports a fault of theirs, or that
+-- memory ran out
+abbrev pub Asks : List (List ℕ) → Option Command → Reply → Type 0
+Asks words (Some command) answer = command_of_words words ≡ Ok command
+Asks words None answer =
+    ((fault : Fault) × (command_of_words words ≡ Err fault) × (answer ≡ Error fault)) ⊎ (answer ≡ Error Memory)
+
+-- and what is asked is replied to
 abbrev pub Answered :
     {P : Type 0} → (P → Command → Reply → P → Type 0) → P → List (List ℕ) → Option Command → Reply → P → Type 0
 Answered Replies old words (Some command) answer new =
-    (command_of_words words ≡ Ok command) × Replies old command answer new
-Answered Replies old words None answer new =
-    (new ≡ old)
-    × (((fault : Fault) × (command_of_words words ≡ Err fault) × (answer ≡ Error fault)) ⊎ (answer ≡ Error Memory))
+    Asks words (Some command) answer × Replies old command answer new
+Answered Replies old words None answer new = (new ≡ old) × Asks words None answer
 
 -- the same, whichever command was asked
 abbrev pub IsAnswer : {P : Type 0} → (P → Command → Reply → P → Type 0) → P → List (List ℕ) → Reply → P → Type 0

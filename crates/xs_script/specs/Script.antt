@@ -7,7 +7,7 @@ use Rattle.xs_command.specs.declared.command.Command.{Command}
 use Rattle.xs_keys.specs.Event.{Event, History}
 use Rattle.xs_keys.specs.EachReply.{JoinsOrIsLeftOut}
 use Rattle.xs_keys.specs.Headline.{Headline}
-use Rattle.xs_script.specs.Answering.{Answered, IsAnswer}
+use Rattle.xs_script.specs.Answering.{Asks, IsAnswer}
 use Rattle.xs_script.specs.Line.{is_line_end, line_of}
 
 -- over a history, these script lines may be answered by this text, and leave that history
@@ -28,8 +28,7 @@ pub record Served : Type 0 where
 -- ran out
 abbrev pub IsServedLine : List ℕ → Served → Type 0
 IsServedLine line served =
-    (words : List (List ℕ)) × (line_of line ≡ Some (served.now, words))
-    × Answered {P = Unit {0}} (λ old command answer new. Unit {0}) tt words served.asked served.answer tt
+    (words : List (List ℕ)) × (line_of line ≡ Some (served.now, words)) × Asks words served.asked served.answer
 
 abbrev pub AreServed : List (List ℕ) → List Served → Type 0
 AreServed [] [] = Unit {0}

@@ -29,7 +29,7 @@ fn answer(alloc: Global, keyspace: &mut Keyspace, now: Moment, words: &[Bytes]) 
     ensures { IsAnswer (StepAt now) keyspace.old words.now result keyspace.new }
 {
     match read_command(alloc, words) {
-        Ok(command) => keyspace.apply_owned(now, command),
+        Ok(command) => keyspace.apply(now, &command),
         Err(Refusal::Said(fault)) => Reply::Error(fault),
         Err(Refusal::Memory) => Reply::Error(Fault::Memory),
     }

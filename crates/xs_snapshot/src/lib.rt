@@ -10,4 +10,4 @@ pub mod writing;
 
 pub use keyspace_builder::KeyspaceBuilder;
 pub use reading::read_snapshot;
-pub use writing::{complete_snapshot, put_keys, write_snapshot};
+pub use writing::write_snapshot;

@@ -137,7 +137,7 @@ fn put_key<T: Tape + Drop>(
 /// # Errors
 /// A `WriteFault`: out of memory; or the tape failed; or a piece has too many words, or too long ones, or there are
 /// 2^64 pieces or more.
-pub fn put_keys<T: Tape + Drop>(
+fn put_keys<T: Tape + Drop>(
     writer: &mut SnapshotWriter<T>,
     keyspace: &Keyspace,
 ) -> Result<(), WriteFault>
@@ -158,7 +158,7 @@ pub fn put_keys<T: Tape + Drop>(
 ///
 /// # Errors
 /// A `WriteFault`, like that of `put_keys`. It isn't known then what is kept.
-pub fn complete_snapshot<T: Tape + Drop>(
+fn complete_snapshot<T: Tape + Drop>(
     writer: &mut SnapshotWriter<T>,
     keyspace: &Keyspace,
 ) -> Result<(), WriteFault>

@@ -289,10 +289,6 @@ not_within range h x = by (is_below x range.low) refl where
   by true e = refl
   by false e = ap not (below-not_below range.high range.low x h e)
 
-pub within-none : (range : Range) → is_below range.high range.low ≡ true → (ids : List Id) → filter (is_within range) ids ≡ []
-within-none range h [] = refl
-within-none range h (x ∷ xs) = rw (not_within range h x) (within-none range h xs)
-
 pub limited-none : (limit : Option ℕ) → up_to_limit limit [] ≡ []
 limited-none None = refl
 limited-none (Some n) = drop-take n where

@@ -1,12 +1,15 @@
 -- Entries that a stream lends are found by their ids.
 use Rattle.std.proofs.Common.{ℕ, ◌<◌, zero, suc, get_or, length, arith, Bool, true, false, cond, List, [], ◌∷◌, filter}
-use Rattle.std.proofs.Common.{take, reverse, Option, Some, None, refl}
+use Rattle.std.proofs.Common.{◌≡◌, ◌++◌, map, take, reverse, Option, Some, None, sym, ap, ◌∙◌, refl}
+use Rattle.std.proofs.lemmas.List.{take-map, reverse-append, map-append}
 use mathlib.Core.List.{reverse_aux}
 use Rattle.xs_stream.specs.declared.id.Id.{Id}
 use Rattle.xs_stream.specs.declared.field.Field.{Field}
 use Rattle.xs_stream.specs.declared.range.Range.{Range}
-use Rattle.xs_stream.specs.StreamContent.{ids_of, AllAbove, Ascends, is_within, entries_within, IsEntryOf, AreEntriesOf}
+use Rattle.xs_stream.specs.StreamContent.{ids_of, AllAbove, Ascends, is_within, up_to_limit, ids_within, all_within}
+use Rattle.xs_stream.specs.StreamContent.{entries_within, IsEntryOf, AreEntriesOf}
 use Rattle.xs_stream.proofs.Order.{below-not_same, is_same_id-refl, is_same_id-symm}
+use Rattle.xs_stream.proofs.InOrder.{ids_of-filter}
 
 abbrev Entries : Type 0
 Entries = List (Id × List Field)
@@ -58,3 +61,22 @@ pub is-lent : (entries lent : Entries) (k : ℕ) (d : Id × List Field) → k < 
 is-lent entries [] k d h found = absurd (omega arith)
 is-lent entries (e ∷ es) zero d h found = found.0
 is-lent entries (e ∷ es) (suc k) d h found = is-lent entries es k d (omega arith) found.1
+
+-- ---- their ids
+
+map-reverse : {X Y : Type 0} (f : X → Y) (xs : List X) → map f (reverse xs) ≡ reverse (map f xs)
+map-reverse f [] = refl
+map-reverse f (x ∷ xs) =
+    ap (map f) (reverse-append (x ∷ []) xs) ∙ map-append f (reverse xs) (x ∷ []) ∙ ap (λ front. front ++ f x ∷ []) (map-reverse f xs)
+    ∙ sym (reverse-append (f x ∷ []) (map f xs))
+
+all-ids : (range : Range) (reversed : Bool) (es : Entries) → ids_of (all_within range reversed es) ≡ ids_within range reversed es
+all-ids range false es = ids_of-filter (is_within range) es
+all-ids range true es =
+    map-reverse (λ (e : Id × List Field). e.0) (filter (λ e. is_within range e.0) es) ∙ ap reverse (ids_of-filter (is_within range) es)
+
+-- the ids of the entries of a range
+pub ids-within : (range : Range) (reversed : Bool) (limit : Option ℕ) (es : Entries) → ids_of (entries_within range reversed limit es) ≡ up_to_limit limit (ids_within range reversed es)
+ids-within range reversed None es = all-ids range reversed es
+ids-within range reversed (Some n) es =
+    sym (take-map (λ (e : Id × List Field). e.0) n (all_within range reversed es)) ∙ ap (take n) (all-ids range reversed es)

@@ -17,5 +17,4 @@ pub mod CountedPast
 pub mod PlacesInLists
 pub mod Rooms
 pub mod WithinBlocks
-pub mod WithinEntries
 pub mod Computing

@@ -13,7 +13,7 @@ use Rattle.std.proofs.Math.Seq.{take-append_seam, drop-append_seam, take-add}
 use Rattle.xs_stream.specs.declared.field.Field.{Field}
 use Rattle.xs_stream.specs.declared.id.Id.{Id}
 use Rattle.xs_stream.specs.Id.{is_same_id}
-use Rattle.xs_stream.specs.StreamContent.{fields_at, ids_of}
+use Rattle.xs_stream.specs.StreamContent.{fields_at}
 use Rattle.xs_stream.specs.PackedNumber.{number_code, first_number, after_number}
 use Rattle.xs_stream.specs.PackedText.{text_code, first_text, after_text}
 use Rattle.xs_stream.specs.Packed.{names_code, has_names, body_fields, entry_code, entry_id, entry_body, entry_in}
@@ -107,47 +107,12 @@ module _ (base : ℕ) (names : List ℕ) (count i : ℕ) (bytes : List ℕ) (h :
   drop-passed =
       drop-entries_in base names count (suc i) bytes (omega arith) ∙ rw (after_entries-suc i bytes) (ap (λ n. packed_entries base names n (after_entry (after_entries i bytes))) (omega arith))
 
--- ---- a filter of ids
+-- ---- a filter of entries
 
 pub joined : {X : Type 0} (t u : List X) (x : X) (xs : List X) → u ≡ t ++ x ∷ [] → t ++ x ∷ xs ≡ u ++ xs
 joined t u x xs e = rw (e, append_assoc) refl
 
 module _ (test : Id → Bool) (base : ℕ) (names : List ℕ) (count i : ℕ) (x : Id) (rest next : List ℕ) (h : i < count) (is : x ≡ entry_id base rest) (on : next ≡ after_entry rest) where
-  filter-taken : test x ≡ true
-      → filter test (ids_of (packed_entries base names (count - i) rest)) ≡ x ∷ filter test (ids_of (packed_entries base names (count - (i + 1)) next))
-  filter-taken e =
-      let passes : test (entry_id base rest) ≡ true = subst (λ y. test y ≡ true) is e in
-      rw (left-step base names count i rest h, passes) (ap (λ y. y ∷ filter test (ids_of (packed_entries base names (count - (i + 1)) (after_entry rest)))) (sym is)
-      ∙ ap (λ r. x ∷ filter test (ids_of (packed_entries base names (count - (i + 1)) r))) (sym on))
-
-  filter-left : test x ≡ false
-      → filter test (ids_of (packed_entries base names (count - i) rest)) ≡ filter test (ids_of (packed_entries base names (count - (i + 1)) next))
-  filter-left e =
-      let fails : test (entry_id base rest) ≡ false = subst (λ y. test y ≡ false) is e in
-      rw (left-step base names count i rest h, fails) (ap (λ r. filter test (ids_of (packed_entries base names (count - (i + 1)) r))) (sym on))
-
-  pub all-taken : (most : ℕ) (all ids ids2 : List Id) → test x ≡ true → ids2 ≡ ids ++ x ∷ []
-      → all ≡ take most (ids ++ filter test (ids_of (packed_entries base names (count - i) rest)))
-      → all ≡ take most (ids2 ++ filter test (ids_of (packed_entries base names (count - (i + 1)) next)))
-  all-taken most all ids ids2 e f was = was ∙ ap (λ r. take most (ids ++ r)) (filter-taken e) ∙ ap (take most) (joined ids ids2 x _ f)
-
-  pub all-left : (most : ℕ) (all ids ids2 : List Id) → test x ≡ false → ids2 ≡ ids
-      → all ≡ take most (ids ++ filter test (ids_of (packed_entries base names (count - i) rest)))
-      → all ≡ take most (ids2 ++ filter test (ids_of (packed_entries base names (count - (i + 1)) next)))
-  all-left most all ids ids2 e f was =
-      was ∙ ap (λ r. take most (ids ++ r)) (filter-left e) ∙ ap (λ r. take most (r ++ filter test (ids_of (packed_entries base names (count - (i + 1)) next)))) (sym f)
-
-  pub each-taken : (all ids ids2 : List Id) → test x ≡ true → ids2 ≡ ids ++ x ∷ []
-      → all ≡ ids ++ filter test (ids_of (packed_entries base names (count - i) rest))
-      → all ≡ ids2 ++ filter test (ids_of (packed_entries base names (count - (i + 1)) next))
-  each-taken all ids ids2 e f was = was ∙ ap (λ r. ids ++ r) (filter-taken e) ∙ joined ids ids2 x _ f
-
-  pub each-left : (all ids ids2 : List Id) → test x ≡ false → ids2 ≡ ids
-      → all ≡ ids ++ filter test (ids_of (packed_entries base names (count - i) rest))
-      → all ≡ ids2 ++ filter test (ids_of (packed_entries base names (count - (i + 1)) next))
-  each-left all ids ids2 e f was =
-      was ∙ ap (λ r. ids ++ r) (filter-left e) ∙ ap (λ r. r ++ filter test (ids_of (packed_entries base names (count - (i + 1)) next))) (sym f)
-
   entry-is : (fields : List Field) → fields ≡ body_fields names (entry_body rest) → entry_in base names rest ≡ (x, fields)
   entry-is fields f = ap (λ (y : Id). (y, body_fields names (entry_body rest))) (sym is) ∙ ap (λ (fs : List Field). (x, fs)) (sym f)
 
@@ -174,17 +139,6 @@ module _ (test : Id → Bool) (base : ℕ) (names : List ℕ) (count i : ℕ) (x
       → all ≡ take most (es2 ++ filter (λ e. test e.0) (packed_entries base names (count - (i + 1)) next))
   shown-left most all es es2 e f was =
       was ∙ ap (λ r. take most (es ++ r)) (shown-filter_left e) ∙ ap (λ r. take most (r ++ filter (λ e. test e.0) (packed_entries base names (count - (i + 1)) next))) (sym f)
-
-  pub each_shown-taken : (fields : List Field) (all es es2 : List (Id × List Field)) → test x ≡ true → fields ≡ body_fields names (entry_body rest) → es2 ≡ es ++ (x, fields) ∷ []
-      → all ≡ es ++ filter (λ e. test e.0) (packed_entries base names (count - i) rest)
-      → all ≡ es2 ++ filter (λ e. test e.0) (packed_entries base names (count - (i + 1)) next)
-  each_shown-taken fields all es es2 e f g was = was ∙ ap (λ r. es ++ r) (shown-filter_taken fields e f) ∙ joined es es2 (x, fields) _ g
-
-  pub each_shown-left : (all es es2 : List (Id × List Field)) → test x ≡ false → es2 ≡ es
-      → all ≡ es ++ filter (λ e. test e.0) (packed_entries base names (count - i) rest)
-      → all ≡ es2 ++ filter (λ e. test e.0) (packed_entries base names (count - (i + 1)) next)
-  each_shown-left all es es2 e f was =
-      was ∙ ap (λ r. es ++ r) (shown-filter_left e) ∙ ap (λ r. r ++ filter (λ e. test e.0) (packed_entries base names (count - (i + 1)) next)) (sym f)
 
   pub count-taken : test x ≡ true
       → length (filter (λ e. test e.0) (packed_entries base names (count - i) rest)) ≡ suc (length (filter (λ e. test e.0) (packed_entries base names (count - (i + 1)) next)))

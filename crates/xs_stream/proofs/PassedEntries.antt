@@ -6,7 +6,7 @@ use Rattle.xs_stream.specs.declared.id.Id.{Id}
 use Rattle.xs_stream.specs.declared.packed.walks.PackedEntries.{PackedEntries}
 use Rattle.xs_stream.specs.declared.range.Range.{Range}
 use Rattle.xs_stream.specs.Id.{is_below, is_same_id}
-use Rattle.xs_stream.specs.StreamContent.{fields_at, ids_of, is_within}
+use Rattle.xs_stream.specs.StreamContent.{fields_at, is_within}
 use Rattle.xs_stream.specs.Packed.{entry_id, entry_in, after_entry, packed_entries, after_entries}
 use Rattle.xs_stream.specs.PassedEntries.{unpacked_entries, packed_ids, AllBelow}
 use Rattle.xs_stream.specs.PackedText.{first_text}
@@ -56,14 +56,6 @@ module _ (base : ℕ) (names : List ℕ) (range : Range) where
       let e : suc count - suc n ≡ count - n = omega arith in
       rw (outside (entry_id base bytes) all.0, e) (within-behind count n (after_entry bytes) (omega arith) all.1)
 
-  pub ids_within-behind : (count n : ℕ) (bytes : List ℕ) → n ≤ count → AllBelow range.low (packed_ids base n bytes)
-      → filter (is_within range) (ids_of (packed_entries base names count bytes)) ≡ filter (is_within range) (ids_of (packed_entries base names (count - n) (after_entries n bytes)))
-  ids_within-behind count zero bytes h all = let e : count - 0 ≡ count = omega arith in rw e refl
-  ids_within-behind zero (suc n) bytes h all = absurd (omega arith)
-  ids_within-behind (suc count) (suc n) bytes h all =
-      let e : suc count - suc n ≡ count - n = omega arith in
-      rw (outside (entry_id base bytes) all.0, e) (ids_within-behind count n (after_entry bytes) (omega arith) all.1)
-
 -- so a walk may begin behind them
 module _ (packed : PackedEntries) (n : ℕ) (rest : List ℕ) (few : n ≤ packed.count) (left : rest ≡ after_entries n (drop packed.start packed.bytes.now)) where
   pub lookup-start : (id : Id) → AllBelow id (packed_ids packed.base n (drop packed.start packed.bytes.now)) → fields_at (unpacked_entries packed) id ≡ fields_at (packed_entries packed.base (first_text packed.bytes.now) (packed.count - n) rest) id
@@ -77,7 +69,3 @@ module _ (packed : PackedEntries) (n : ℕ) (rest : List ℕ) (few : n ≤ packe
   pub within-start : (range : Range) → AllBelow range.low (packed_ids packed.base n (drop packed.start packed.bytes.now))
       → filter (λ e. is_within range e.0) (unpacked_entries packed) ≡ filter (λ e. is_within range e.0) (packed_entries packed.base (first_text packed.bytes.now) (packed.count - n) rest)
   within-start range all = rw left (within-behind packed.base (first_text packed.bytes.now) range packed.count n (drop packed.start packed.bytes.now) few all)
-
-  pub ids_within-start : (range : Range) → AllBelow range.low (packed_ids packed.base n (drop packed.start packed.bytes.now))
-      → filter (is_within range) (ids_of (unpacked_entries packed)) ≡ filter (is_within range) (ids_of (packed_entries packed.base (first_text packed.bytes.now) (packed.count - n) rest))
-  ids_within-start range all = rw left (ids_within-behind packed.base (first_text packed.bytes.now) range packed.count n (drop packed.start packed.bytes.now) few all)

@@ -5,11 +5,12 @@ use Rattle.std.proofs.lemmas.Bool.Decides.{nat_tests}
 use Rattle.std.specs.Ordering.{nat_cmp, is_lt}
 use Rattle.xs_stream.specs.declared.id.Id.{Id}
 use Rattle.xs_stream.specs.declared.field.Field.{Field}
-use Rattle.xs_stream.specs.Id.{is_below, greatest_number, greatest_id}
+use Rattle.xs_stream.specs.Id.{is_below, greatest_number}
 use Rattle.xs_stream.specs.IdText.{next_id}
-use Rattle.xs_stream.specs.StreamContent.{ids_of, AllAbove, Ascends, is_within}
+use Rattle.xs_stream.specs.StreamContent.{ids_of, AllAbove, AllUpTo, Ascends, is_within, up_to_limit, entries_within}
 use Rattle.xs_stream.specs.ConsistentStream.{IsId, AllIds, rank_of}
 use Rattle.xs_stream.proofs.InOrder.{and_yes, ascends-filter, ids_of-filter}
+use Rattle.xs_stream.proofs.Lending.{ids-within}
 
 lt-ltb : (s t : ℕ) → is_lt (nat_cmp s t) ≡ ltb s t
 lt-ltb s t = by (ltb s t) (eqb s t) refl refl where
@@ -42,9 +43,6 @@ after_last m s n t e h = grind (arith, nat_tests)
 none_after : (m s n t : ℕ) → ltb m greatest_number ≡ false → ltb s greatest_number ≡ false → n < 18446744073709551616 → t < 18446744073709551616 → (ltb m n || (eqb m n && ltb s t)) ≡ false
 none_after m s n t e f h k = grind (arith, nat_tests)
 
-up_to_greatest : (x : Id) → IsId x → is_below greatest_id x ≡ false
-up_to_greatest x fits = below-is greatest_number greatest_number x.ms x.seq ∙ none_after greatest_number greatest_number x.ms x.seq refl refl fits.0 fits.1
-
 -- what is above a cursor isn't below its successor
 pub from-past : (cursor low x : Id) → next_id cursor ≡ Some low → IsId x → not (is_below x low) ≡ is_below cursor x
 from-past cursor low x h fits =
@@ -61,11 +59,6 @@ from-past cursor low x h fits =
           ∙ sym (below-is cursor.ms cursor.seq x.ms x.seq)
       by false false e f = let no = f in cc
 
--- it is within the range from there on
-above-within : (cursor low x : Id) → next_id cursor ≡ Some low → IsId x → is_within (record { low = low; high = greatest_id }) x ≡ is_below cursor x
-above-within cursor low x h fits =
-    ap (λ b. not (is_below x low) && not b) (up_to_greatest x fits) ∙ and_yes (not (is_below x low)) ∙ from-past cursor low x h fits
-
 -- where a cursor has no successor nothing is above it
 none-above : (cursor x : Id) → next_id cursor ≡ None → IsId x → is_below cursor x ≡ false
 none-above cursor x h fits = below-is cursor.ms cursor.seq x.ms x.seq ∙ by (ltb cursor.seq greatest_number) (ltb cursor.ms greatest_number) refl refl h where
@@ -76,19 +69,22 @@ none-above cursor x h fits = below-is cursor.ms cursor.seq x.ms x.seq ∙ by (lt
   by false true e f g = let no = g in cc
   by false false e f g = none_after cursor.ms cursor.seq x.ms x.seq f e fits.0 fits.1
 
-filter-same : (p q : Id → Bool) (ids : List Id) → ((x : Id) → IsId x → p x ≡ q x) → AllIds ids → filter p ids ≡ filter q ids
-filter-same p q [] same fit = refl
-filter-same p q (x ∷ xs) same fit = rw (same x fit.0) (ap (λ rest. cond (q x) (x ∷ rest) rest) (filter-same p q xs same fit.1))
+-- the ids up to a top that are above a cursor are those of the range between the two
+past-within : (cursor low top : Id) (ids : List Id) → next_id cursor ≡ Some low → AllIds ids → AllUpTo top ids
+    → filter (is_within (record { low = low; high = top })) ids ≡ filter (λ x. is_below cursor x) ids
+past-within cursor low top [] h fit up = refl
+past-within cursor low top (x ∷ xs) h fit up =
+    rw (up.0, and_yes (not (is_below x low)), from-past cursor low x h fit.0)
+    (ap (λ rest. cond (is_below cursor x) (x ∷ rest) rest) (past-within cursor low top xs h fit.1 up.1))
 
-filter-none : (p : Id → Bool) (ids : List Id) → ((x : Id) → IsId x → p x ≡ false) → AllIds ids → filter p ids ≡ []
-filter-none p [] none fit = refl
-filter-none p (x ∷ xs) none fit = rw (none x fit.0) (filter-none p xs none fit.1)
-
-pub past-within : (cursor low : Id) (ids : List Id) → next_id cursor ≡ Some low → AllIds ids → filter (is_within (record { low = low; high = greatest_id })) ids ≡ filter (λ x. is_below cursor x) ids
-past-within cursor low ids h fit = filter-same (is_within (record { low = low; high = greatest_id })) (λ x. is_below cursor x) ids (λ x fits. above-within cursor low x h fits) fit
+pub past-ids : (cursor low top : Id) (limit : Option ℕ) (es : List (Id × List Field)) → next_id cursor ≡ Some low → AllIds (ids_of es) → AllUpTo top (ids_of es)
+    → ids_of (entries_within (record { low = low; high = top }) false limit es) ≡ up_to_limit limit (filter (λ x. is_below cursor x) (ids_of es))
+past-ids cursor low top limit es h fit up =
+    ids-within (record { low = low; high = top }) false limit es ∙ ap (up_to_limit limit) (past-within cursor low top (ids_of es) h fit up)
 
 pub past-none : (cursor : Id) (ids : List Id) → next_id cursor ≡ None → AllIds ids → filter (λ x. is_below cursor x) ids ≡ []
-past-none cursor ids h fit = filter-none (λ x. is_below cursor x) ids (λ x fits. none-above cursor x h fits) fit
+past-none cursor [] h fit = refl
+past-none cursor (x ∷ xs) h fit = rw (none-above cursor x h fit.0) (past-none cursor xs h fit.1)
 
 -- ---- they ascend
 
@@ -102,6 +98,11 @@ ascends-take zero ids a = tt
 ascends-take (suc n) [] a = tt
 ascends-take (suc n) (y ∷ ys) a = (above-take y n ys a.0, ascends-take n ys a.1)
 
-pub past-ascends : (n : ℕ) (cursor : Id) (es : List (Id × List Field)) → Ascends (ids_of es) → Ascends (take n (filter (λ x. is_below cursor x) (ids_of es)))
-past-ascends n cursor es a =
-    ascends-take n _ (subst Ascends (ids_of-filter (λ x. is_below cursor x) es) (ascends-filter (λ e. is_below cursor e.0) es a))
+pub past-ascends : (limit : Option ℕ) (cursor : Id) (es : List (Id × List Field)) → Ascends (ids_of es) → Ascends (up_to_limit limit (filter (λ x. is_below cursor x) (ids_of es)))
+past-ascends limit cursor es a = by limit where
+  above : Ascends (filter (λ x. is_below cursor x) (ids_of es))
+  above = subst Ascends (ids_of-filter (λ x. is_below cursor x) es) (ascends-filter (λ e. is_below cursor e.0) es a)
+
+  by : (limit : Option ℕ) → Ascends (up_to_limit limit (filter (λ x. is_below cursor x) (ids_of es)))
+  by None = above
+  by (Some n) = ascends-take n _ above

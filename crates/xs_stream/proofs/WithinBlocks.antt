@@ -1,4 +1,4 @@
--- The ids of a range, in the blocks that a walk meets: those from the low end on, up to the first that is filed under the high end or above it.
+-- The entries of a range, in the blocks that a walk meets: those from the low end on, up to the first that is filed under the high end or above it.
 use Rattle.std.proofs.Common.{◌≡◌, ℕ, ◌≤◌, suc, zero, Bool, true, false, not, ◌&&◌, cond, List, [], ◌∷◌, ◌++◌, length}
 use Rattle.std.proofs.Common.{filter, take, reverse, Option, Some, None, sym, ap, ◌∙◌, refl, append_assoc, Ordering}
 use Rattle.std.proofs.lemmas.List.{append-nil, take-append-le, reverse-append}
@@ -18,7 +18,7 @@ use Rattle.xs_stream.specs.StreamContent.{ids_of, AllAbove, AllUpTo, is_within}
 use Rattle.xs_stream.specs.Blocks.{entries_of_blocks, AreFiled, end_under, end_at}
 use Rattle.xs_stream.proofs.Order.{ids_total, below-irrefl, below-not_back, up_to-below, below-not_below}
 use Rattle.xs_stream.proofs.Order.{not_above-trans, le-not_below}
-use Rattle.xs_stream.proofs.InOrder.{ids_of-append, and_yes}
+use Rattle.xs_stream.proofs.InOrder.{and_yes, not_within}
 use Rattle.xs_stream.proofs.FiledBlocks.{entry-of_key, entry-passes}
 
 abbrev Entries : Type 0
@@ -27,12 +27,17 @@ Entries = List (Id × List Field)
 abbrev Blocks : Type 0
 Blocks = List (Id × List (Id × List Field))
 
--- the ids of entries that are within a range
-abbrev pub within : Range → Entries → List Id
-within range es = filter (is_within range) (ids_of es)
+-- the entries that are within a range
+abbrev pub within : Range → Entries → Entries
+within range es = filter (λ e. is_within range e.0) es
 
 pub within-append : (range : Range) (es fs : Entries) → within range (es ++ fs) ≡ within range es ++ within range fs
-within-append range es fs = ap (filter (is_within range)) (ids_of-append es fs) ∙ filter-append (is_within range) (ids_of es) (ids_of fs)
+within-append range es fs = filter-append (λ (e : Id × List Field). is_within range e.0) es fs
+
+-- nothing is within a range whose ends stand the other way
+pub within-none : (range : Range) → is_below range.high range.low ≡ true → (es : Entries) → within range es ≡ []
+within-none range h [] = refl
+within-none range h (e ∷ es) = rw (not_within range h e.0) (within-none range h es)
 
 module _ (range : Range) where
   -- none of those up to an id below the low end is within
@@ -92,12 +97,12 @@ module _ (range : Range) where
   -- a block that the walk meets, and one that it doesn't
   met : (b : Id × Entries) (bs cs : Blocks) (newest : Entries) → within range (entries_of_blocks cs ++ newest) ≡ within range (entries_of_blocks bs ++ newest) → within range (entries_of_blocks (b ∷ cs) ++ newest) ≡ within range (entries_of_blocks (b ∷ bs) ++ newest)
   met b bs cs newest rest =
-      ap (within range) (append_assoc b.1 (entries_of_blocks cs) newest) ∙ within-append range b.1 (entries_of_blocks cs ++ newest) ∙ ap (λ ids. within range b.1 ++ ids) rest
+      ap (within range) (append_assoc b.1 (entries_of_blocks cs) newest) ∙ within-append range b.1 (entries_of_blocks cs ++ newest) ∙ ap (λ es. within range b.1 ++ es) rest
       ∙ sym (ap (within range) (append_assoc b.1 (entries_of_blocks bs) newest) ∙ within-append range b.1 (entries_of_blocks bs ++ newest))
 
   unmet : (b : Id × Entries) (bs cs : Blocks) (newest : Entries) → within range b.1 ≡ [] → within range (entries_of_blocks cs ++ newest) ≡ within range (entries_of_blocks bs ++ newest) → within range (entries_of_blocks cs ++ newest) ≡ within range (entries_of_blocks (b ∷ bs) ++ newest)
   unmet b bs cs newest none rest =
-      rest ∙ ap (λ ids. ids ++ within range (entries_of_blocks bs ++ newest)) (sym none) ∙ sym (ap (within range) (append_assoc b.1 (entries_of_blocks bs) newest) ∙ within-append range b.1 (entries_of_blocks bs ++ newest))
+      rest ∙ ap (λ es. es ++ within range (entries_of_blocks bs ++ newest)) (sym none) ∙ sym (ap (within range) (append_assoc b.1 (entries_of_blocks bs) newest) ∙ within-append range b.1 (entries_of_blocks bs ++ newest))
 
   -- a walk with no end
   pub walk-open : (bs : Blocks) (newest : Entries) → AreFiled bs newest → within range (entries_of_blocks (entries_between id_cmp (Included range.low) Unbounded bs) ++ newest) ≡ within range (entries_of_blocks bs ++ newest)
@@ -183,20 +188,20 @@ listed-push (c ∷ cs) b = ap (λ rest. c.1 ++ rest) (listed-push cs b) ∙ sym 
 
 module _ (range : Range) (n : ℕ) where
   -- one block more, from the low end up
-  pub up-more : (ids : List Id) (b : Id × Entries) (bs : Blocks) (newest : Entries)
-      → take n (take n (ids ++ within range b.1) ++ within range (entries_of_blocks bs ++ newest)) ≡ take n (ids ++ within range (entries_of_blocks (b ∷ bs) ++ newest))
-  up-more ids b bs newest =
-      take-take_append n (ids ++ within range b.1) (within range (entries_of_blocks bs ++ newest))
-      ∙ ap (take n) (append_assoc ids (within range b.1) (within range (entries_of_blocks bs ++ newest))
-      ∙ ap (λ rest. ids ++ rest) (sym (ap (within range) (append_assoc b.1 (entries_of_blocks bs) newest) ∙ within-append range b.1 (entries_of_blocks bs ++ newest))))
+  pub up-more : (es : Entries) (b : Id × Entries) (bs : Blocks) (newest : Entries)
+      → take n (take n (es ++ within range b.1) ++ within range (entries_of_blocks bs ++ newest)) ≡ take n (es ++ within range (entries_of_blocks (b ∷ bs) ++ newest))
+  up-more es b bs newest =
+      take-take_append n (es ++ within range b.1) (within range (entries_of_blocks bs ++ newest))
+      ∙ ap (take n) (append_assoc es (within range b.1) (within range (entries_of_blocks bs ++ newest))
+      ∙ ap (λ rest. es ++ rest) (sym (ap (within range) (append_assoc b.1 (entries_of_blocks bs) newest) ∙ within-append range b.1 (entries_of_blocks bs ++ newest))))
 
   -- one block more, from the high end down
-  pub down-more : (ids : List Id) (bs : Blocks) (b : Id × Entries)
-      → take n (take n (ids ++ reverse (within range b.1)) ++ reverse (within range (entries_of_blocks bs))) ≡ take n (ids ++ reverse (within range (entries_of_blocks (bs ++ b ∷ []))))
-  down-more ids bs b =
-      take-take_append n (ids ++ reverse (within range b.1)) (reverse (within range (entries_of_blocks bs)))
-      ∙ ap (take n) (append_assoc ids (reverse (within range b.1)) (reverse (within range (entries_of_blocks bs)))
-      ∙ ap (λ rest. ids ++ rest) (sym (ap (λ es. reverse (within range es)) (listed-push bs b) ∙ turned bs b.1))) where
+  pub down-more : (es : Entries) (bs : Blocks) (b : Id × Entries)
+      → take n (take n (es ++ reverse (within range b.1)) ++ reverse (within range (entries_of_blocks bs))) ≡ take n (es ++ reverse (within range (entries_of_blocks (bs ++ b ∷ []))))
+  down-more es bs b =
+      take-take_append n (es ++ reverse (within range b.1)) (reverse (within range (entries_of_blocks bs)))
+      ∙ ap (take n) (append_assoc es (reverse (within range b.1)) (reverse (within range (entries_of_blocks bs)))
+      ∙ ap (λ rest. es ++ rest) (sym (ap (λ es. reverse (within range es)) (listed-push bs b) ∙ turned bs b.1))) where
         turned : (cs : Blocks) (es : Entries) → reverse (within range (entries_of_blocks cs ++ es)) ≡ reverse (within range es) ++ reverse (within range (entries_of_blocks cs))
         turned cs es = ap reverse (within-append range (entries_of_blocks cs) es) ∙ reverse-append (within range (entries_of_blocks cs)) (within range es)
 

@@ -416,20 +416,6 @@ impl Block {
         self.packed().count_below(low)
     }
 
-    /// Appends the ids within a range, in their order, as long as there are fewer than `most` in all.
-    pub(crate) fn push_up(
-        &self,
-        ids: &mut Vec<Id>,
-        range: Range,
-        most: u64,
-    ) -> Result<(), AllocError>
-        requires { length ids.old.items ≤ most }
-        ensures { OnOk result (ids.new.items
-            ≡ take most (ids.old.items ++ filter (is_within range) (ids_of self.now.entries))) }
-    {
-        self.packed().push_ids(ids, range, most)
-    }
-
     /// Appends the entries within a range, in their order, as long as there are fewer than `most` in all.
     pub(crate) fn push_entries_up<'a>(
         &'a self,
@@ -444,24 +430,6 @@ impl Block {
         self.packed().push_entries(shown, range, most)
     }
 
-    /// Appends the ids within a range, from the last one down, as long as there are fewer than `most` in all.
-    pub(crate) fn push_down(
-        &self,
-        ids: &mut Vec<Id>,
-        range: Range,
-        most: u64,
-    ) -> Result<(), AllocError>
-        requires { length ids.old.items ≤ most }
-        ensures { OnOk result (ids.new.items
-            ≡ take most (ids.old.items ++ reverse (filter (is_within range) (ids_of self.now.entries)))) }
-    {
-        let from = ids.len();
-        self.packed().push_all_ids(ids, range)?;
-        reverse_from(ids, from);
-        ids.truncate(most as usize);
-        Ok(())
-    }
-
     /// Appends the entries within a range, from the last one down, as long as there are fewer than `most` in all.
     pub(crate) fn push_entries_down<'a>(
         &'a self,
@@ -473,8 +441,9 @@ impl Block {
         ensures { OnOk result (shown.new.items
             ≡ take most (shown.old.items ++ reverse (filter (λ e. is_within range e.0) self.now.entries))) }
     {
+        shown.reserve(self.count)?;
         let from = shown.len();
-        self.packed().push_all_entries(shown, range)?;
+        self.packed().push_entries(shown, range, u64::MAX)?;
         reverse_from(shown, from);
         shown.truncate(most as usize);
         Ok(())

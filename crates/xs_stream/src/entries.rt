@@ -520,28 +520,6 @@ impl Entries {
         }
     }
 
-    /// The ids of a range, from its low end up, at most this many.
-    pub(crate) fn ids_up(
-        &self,
-        alloc: Global,
-        range: Range,
-        most: u64,
-    ) -> Result<Vec<Id>, AllocError>
-        requires { IsLaidDown self.now }
-        ensures { IfOk result (λ ids. ids.items ≡ take most (filter (is_within range) (ids_of (all_of self.now)))) }
-    {
-        let mut ids = Vec::new(alloc);
-        let blocks = self.older.range(range.low..);
-        for (under, block) in blocks {
-            block.push_up(&mut ids, range, most)?;
-            if range.high <= *under || ids.len() as u64 >= most {
-                return Ok(ids);
-            }
-        }
-        self.newest.push_up(&mut ids, range, most)?;
-        Ok(ids)
-    }
-
     /// The entries of a range, from its low end up, at most this many.
     pub(crate) fn entries_up(
         &self,
@@ -562,28 +540,6 @@ impl Entries {
         }
         self.newest.push_entries_up(&mut shown, range, most)?;
         Ok(shown)
-    }
-
-    /// The ids above a cursor, in their order, at most this many.
-    pub(crate) fn ids_past(
-        &self,
-        alloc: Global,
-        cursor: Id,
-        most: u64,
-    ) -> Result<Vec<Id>, AllocError>
-        requires laid_down { IsLaidDown self.now }
-        requires ids { AllIds (ids_of (all_of self.now)) }
-        ensures { IfOk result (λ ids. ids.items
-            ≡ take most (filter (λ x. is_below cursor x) (ids_of (all_of self.now)))) }
-    {
-        let Some(low) = cursor.next() else {
-            return Ok(Vec::new(alloc));
-        };
-        let above = Range {
-            low,
-            high: Id::GREATEST,
-        };
-        self.ids_up(alloc, above, most)
     }
 
     /// Whether an id is nearer to those of the first blocks than to those of the last ones, so that fewer blocks are below it
@@ -621,31 +577,6 @@ impl Entries {
             }
         }
         above.count() + self.newest.len() - beside
-    }
-
-    /// The ids of a range that isn't empty, from its high end down, at most this many.
-    pub(crate) fn ids_down(
-        &self,
-        alloc: Global,
-        range: Range,
-        most: u64,
-    ) -> Result<Vec<Id>, AllocError>
-        requires laid_down { IsLaidDown self.now }
-        requires range { is_below range.high range.low ≡ false }
-        ensures { IfOk result (λ ids. ids.items
-            ≡ take most (reverse (filter (is_within range) (ids_of (all_of self.now))))) }
-    {
-        let mut ids = Vec::new(alloc);
-        self.newest.push_down(&mut ids, range, most)?;
-        let bounds = (Bound::Included(range.low), self.end_at(range.high));
-        let blocks = self.older.range(bounds);
-        for (_under, block) in blocks.rev() {
-            if ids.len() as u64 >= most {
-                break;
-            }
-            block.push_down(&mut ids, range, most)?;
-        }
-        Ok(ids)
     }
 
     /// The entries of a range that isn't empty, from its high end down, at most this many.

@@ -1,9 +1,12 @@
 //! Entries as a stream lends them.
-ghost use Rattle.std.specs.Prelude.{◌≡◌};
+ghost use Rattle.std.specs.Prelude.{◌≡◌, IfOk};
+ghost use Rattle.xs_stream.specs.StreamContent.{ids_of};
 
 use crate::id::Id;
 use crate::packed::fields::PackedFields;
+use std::alloc::{AllocError, Global};
 use std::marker::Model;
+use xs_bytes::List;
 
 /// An entry (Redis Streams, "Entries"), lent by its stream: its id and its fields. A contract sees the pair.
 #[derive(Drop)]
@@ -43,4 +46,15 @@ impl<'a> Entry<'a> {
     {
         self.fields.again()
     }
+}
+
+/// The ids of entries.
+pub fn ids_of(alloc: Global, entries: &[Entry<'_>]) -> Result<List<Id>, AllocError>
+    ensures { IfOk result (λ ids. ids ≡ ids_of entries.now) }
+{
+    let mut ids = Vec::with_capacity(alloc, entries.len())?;
+    for entry in entries {
+        ids.push(entry.id())?;
+    }
+    Ok(List::new(ids))
 }

@@ -19,7 +19,7 @@ pub mod stream;
 pub mod trim;
 
 pub use add::{AddError, AddId};
-pub use entry::Entry;
+pub use entry::{Entry, ids_of};
 pub use field::Field;
 pub use id::Id;
 pub use lent::LentEntries;

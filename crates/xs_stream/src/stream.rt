@@ -11,7 +11,7 @@ ghost use Rattle.xs_stream.specs.ConsistentStream.{is_history_after, AreValid, r
 
 use crate::add::{AddError, AddId};
 use crate::entries::Entries;
-use crate::entry::Entry;
+use crate::entry::{Entry, ids_of};
 use crate::field::Field;
 use crate::id::Id;
 use crate::lent::LentEntries;
@@ -216,16 +216,8 @@ impl Stream {
     ) -> Result<List<Id>, AllocError>
         ensures { IfOk result (λ ids. ids ≡ up_to_limit limit (ids_within range reversed self.now.entries)) }
     {
-        if range.high < range.low {
-            return Ok(List::new(Vec::new(alloc)));
-        }
-        let most = limit.unwrap_or(u64::MAX);
-        let ids = if reversed {
-            self.entries.ids_down(alloc, range, most)?
-        } else {
-            self.entries.ids_up(alloc, range, most)?
-        };
-        Ok(List::new(ids))
+        let entries = self.entries(alloc, range, limit, reversed)?;
+        ids_of(alloc, entries.as_slice())
     }
 
     /// The entries of a range, from its low end up or from its high end down, at most `limit` of them. They are lent:
@@ -252,22 +244,6 @@ impl Stream {
         Ok(List::new(entries))
     }
 
-    /// At most so many entries, from an id on. They are lent, and each is what `get` finds at its id.
-    pub fn entries_from(
-        &self,
-        alloc: Global,
-        first: Id,
-        most: usize,
-    ) -> Result<List<Entry<'_>>, AllocError>
-        ensures { IfOk result (λ entries. AreEntriesOf self.now.entries entries) }
-    {
-        let range = Range {
-            low: first,
-            high: Id::GREATEST,
-        };
-        self.entries(alloc, range, Some(most as u64), false)
-    }
-
     /// Entries to look at side by side with these ids: those from the first id on, as many as there are ids. None if
     /// the ids don't ascend, since few of the entries would be theirs. They are lent, and each is the one that a search
     /// for its id finds.
@@ -280,24 +256,32 @@ impl Stream {
         if !ids.is_sorted() {
             return Ok(List::new(Vec::new(alloc)));
         }
-        self.entries_from(alloc, *first, ids.len())
+        let range = Range {
+            low: *first,
+            high: Id::GREATEST,
+        };
+        self.entries(alloc, range, Some(ids.len() as u64), false)
     }
 
-    /// The ids above a cursor, in their order, at most `limit` of them.
+    /// The entries above a cursor, in the order of their ids, at most `limit` of them. They are lent, and each is what
+    /// `get` finds at its id.
     pub fn past(
         &self,
         alloc: Global,
         cursor: Id,
         limit: Option<u64>,
-    ) -> Result<List<Id>, AllocError>
-        ensures ids { IfOk result (λ ids. ids
+    ) -> Result<List<Entry<'_>>, AllocError>
+        ensures ids { IfOk result (λ entries. ids_of entries
             ≡ up_to_limit limit (filter (λ x. is_below cursor x) (ids_of self.now.entries))) }
-        ensures ascends { IfOk result Ascends }
+        ensures ascends { IfOk result (λ entries. Ascends (ids_of entries)) }
+        ensures found { IfOk result (λ entries. AreEntriesOf self.now.entries entries) }
     {
-        let ids = self
-            .entries
-            .ids_past(alloc, cursor, limit.unwrap_or(u64::MAX))?;
-        Ok(List::new(ids))
+        // No entry has an id above the top, so nothing is walked for a cursor there.
+        let high = self.top;
+        let Some(low) = cursor.next() else {
+            return Ok(List::new(Vec::new(alloc)));
+        };
+        self.entries(alloc, Range { low, high }, limit, false)
     }
 }
 

@@ -45,7 +45,7 @@ fn apply(keyspace: Keyspace, now: Moment, command: Command) -> Reply
     requires { IsWellFormed command }
 {
     let mut keyspace = keyspace;
-    keyspace.apply_owned(now, command)
+    keyspace.apply(now, &command)
 }
 
 /// The text of a keyspace's reply to a line.

@@ -121,48 +121,6 @@ impl<'a> PackedEntries<'a> {
         below
     }
 
-    /// Appends the ids within a range, as long as there are fewer than `most` in all.
-    pub(crate) fn push_ids(
-        &self,
-        ids: &mut Vec<Id>,
-        range: Range,
-        most: u64,
-    ) -> Result<(), AllocError>
-        requires { length ids.old.items ≤ most }
-        ensures { OnOk result (ids.new.items
-            ≡ take most (ids.old.items ++ filter (is_within range) (ids_of (unpacked_entries self.now)))) }
-    {
-        let (passed, mut rest) = self.pass_below(range.low);
-        for _ in passed..self.count {
-            if ids.len() as u64 >= most {
-                return Ok(());
-            }
-            let entry = read_entry(self.base, rest);
-            if range.contains(entry.id) {
-                ids.push(entry.id)?;
-            }
-            rest = entry.rest;
-        }
-        Ok(())
-    }
-
-    /// Appends the ids within a range.
-    pub(crate) fn push_all_ids(&self, ids: &mut Vec<Id>, range: Range) -> Result<(), AllocError>
-        ensures { OnOk result (ids.new.items
-            ≡ ids.old.items ++ filter (is_within range) (ids_of (unpacked_entries self.now))) }
-    {
-        ids.reserve(self.count)?;
-        let mut rest = after(self.bytes, self.start);
-        for _ in 0..self.count {
-            let entry = read_entry(self.base, rest);
-            if range.contains(entry.id) {
-                ids.push(entry.id)?;
-            }
-            rest = entry.rest;
-        }
-        Ok(())
-    }
-
     /// Appends the entries within a range, as long as there are fewer than `most` in all.
     pub(crate) fn push_entries(
         &self,
@@ -180,28 +138,6 @@ impl<'a> PackedEntries<'a> {
             if shown.len() as u64 >= most {
                 return Ok(());
             }
-            let entry = read_entry(self.base, rest);
-            if range.contains(entry.id) {
-                shown.push(Entry::new(entry.id, PackedFields::new(names, entry.body)))?;
-            }
-            rest = entry.rest;
-        }
-        Ok(())
-    }
-
-    /// Appends the entries within a range.
-    pub(crate) fn push_all_entries(
-        &self,
-        shown: &mut Vec<Entry<'a>>,
-        range: Range,
-    ) -> Result<(), AllocError>
-        ensures { OnOk result (shown.new.items
-            ≡ shown.old.items ++ filter (λ e. is_within range e.0) (unpacked_entries self.now)) }
-    {
-        let (names, _) = read_text(self.bytes);
-        shown.reserve(self.count)?;
-        let mut rest = after(self.bytes, self.start);
-        for _ in 0..self.count {
             let entry = read_entry(self.base, rest);
             if range.contains(entry.id) {
                 shown.push(Entry::new(entry.id, PackedFields::new(names, entry.body)))?;

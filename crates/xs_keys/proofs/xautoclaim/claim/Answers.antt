@@ -1,4 +1,4 @@
-use Rattle.std.proofs.Common.{◌≡◌, Some, sym, ap, ◌∙◌, refl, inl, inr}
+use Rattle.std.proofs.Common.{◌≡◌, Some, sym, ap, ◌∙◌, refl}
 use Rattle.xs_keys.specs.Terms.{get, insert, GroupState, ids_of, scan_of}
 use Rattle.xs_keys.specs.ContentAfter.{with_group}
 use Rattle.xs_keys.specs.ReplyParts.{scan_reply}
@@ -6,9 +6,10 @@ use Rattle.xs_keys.specs.KeysRoom.{KeyInMemory, key_state_of}
 use Rattle.xs_keys.proofs.AskSteps.{said-of, put_same}
 use Rattle.xs_keys.proofs.CountedKeys.{counted-group}
 use Rattle.xs_keys.proofs.KeyInPlace.{shown-none, shown-key, shown-same, counted-same}
+use Rattle.xs_keys.proofs.Attempts.{attempted}
 use Rattle.xs_keys.proofs.ChangedGroups.{group-put}
 use Rattle.xs_keys.proofs.xautoclaim.claim.Goals as goal
-use Rattle.xs_keys.proofs.xautoclaim.claim.Goals.{After-slot, in-Ok, in-Err}
+use Rattle.xs_keys.proofs.xautoclaim.claim.Goals.{After-slot}
 
 abbrev key : After-slot → KeyInMemory
 key c = record { stream = c.slot.inside.stream; groups = c.slot.inside.groups }
@@ -22,7 +23,7 @@ had c = shown-key c.keys.inside.slots c.args.keys.now c.keys.view_is c.args.comm
 pub returns-in_default : goal.returns-in_default
 returns-in_default c =
     let none = shown-none c.keys.inside.slots c.args.keys.now c.keys.view_is c.args.command.now.key (sym c.in_default.ensures.value) in
-    rw c.keys.view_is (inl (record { answer_is = rw none refl; content_is = rw none refl }))
+    rw c.keys.view_is (record { answer_is = rw none refl; content_is = rw none refl })
 
 pub invariant_of-keys-in_default-get_mut : goal.invariant_of-keys-in_default-get_mut
 invariant_of-keys-in_default-get_mut c =
@@ -33,10 +34,10 @@ pub returns-in_default-get_mut : goal.returns-in_default-get_mut
 returns-in_default-get_mut c =
     let at = (goal.at.returns-in_default-get_mut c).After-slot in
     let none = sym c.in_default-get_mut.ensures.value in
-    inl (record {
+    record {
       answer_is = rw (had at, none) refl;
       content_is = shown-same c.keys.inside.slots c.args.keys.now c.keys.view_is c.args.command.now.key (key at) (found at) ∙ rw (had at, none) refl;
-    })
+    }
 
 pub invariant_of-keys-2 : goal.invariant_of-keys-2
 invariant_of-keys-2 c =
@@ -52,17 +53,17 @@ returns c =
     let has = sym c.in-Some-get_mut.ensures.value in
     let left = group-put c.keys.inside.slots c.args.keys.now c.keys.view_is command.key (key at) command.group c.claim_in-claimed.new.group in
     let put = λ (group : GroupState). insert c.args.keys.now command.key (with_group (key_state_of (key at)) command.group group) in
-    elim c.match-claimed.branch [
-      | in-Ok w ↦ rw w.result-is (inl (record {
-        answer_is = w.in-Ok.ensures.answer
-            ∙ sym (said-of c.args.keys.now command.key command.group (key_state_of (key at)) c.in-Some-get_mut.group.now (had at) has
-            (λ entries g. scan_reply command.rule.just_id entries (scan_of g.rows.entries (ids_of entries) c.args.now command.rule command.start command.limit)));
-        content_is = left ∙ ap put w.in-Ok.ensures.ok ∙ rw (had at, has) refl;
-      }))
-      | in-Err w ↦ rw w.result-is (inr (record {
-        takes = refl;
-        no_other = rw (had at, has) refl;
-        answer_is = refl;
-        content_is = left ∙ ap put w.in-Err.ensures.err ∙ put_same c.args.keys.now command.key command.group (key_state_of (key at)) c.in-Some-get_mut.group.now (had at) has;
-      }))
-    ]
+    let claimed = c.claim_in-claimed in
+    attempted _ _ _ _ claimed.result _ _ _ claimed.ensures.answer claimed.ensures.ok claimed.ensures.err
+    (λ reply answers changes. record {
+      answer_is = answers
+          ∙ sym (said-of c.args.keys.now command.key command.group (key_state_of (key at)) c.in-Some-get_mut.group.now (had at) has
+          (λ entries g. scan_reply command.rule.just_id entries (scan_of g.rows.entries (ids_of entries) c.args.now command.rule command.start command.limit)));
+      content_is = left ∙ ap put changes ∙ rw (had at, has) refl;
+    })
+    (λ same. record {
+      takes = refl;
+      no_other = rw (had at, has) refl;
+      answer_is = refl;
+      content_is = left ∙ ap put same ∙ put_same c.args.keys.now command.key command.group (key_state_of (key at)) c.in-Some-get_mut.group.now (had at) has;
+    })

@@ -1,4 +1,4 @@
-use Rattle.std.proofs.Common.{◌≡◌, Some, None, sym, ap, ◌∙◌, refl, inl}
+use Rattle.std.proofs.Common.{◌≡◌, Some, None, sym, ap, ◌∙◌, refl}
 use Rattle.xs_keys.specs.Terms.{get, insert}
 use Rattle.xs_keys.specs.KeysRoom.{KeyInMemory, key_state_of}
 use Rattle.xs_keys.proofs.KeyInPlace.{shown-none, shown-key, shown-change, shown-same, counted-same}
@@ -10,7 +10,7 @@ use Rattle.xs_keys.proofs.xgroup.create_consumer.Goals.{in-Ok, in-Err}
 pub returns-in_default : goal.returns-in_default
 returns-in_default c =
     let none = shown-none c.keys.inside.slots c.args.keys.now c.keys.view_is c.args.key.now (sym c.in_default.ensures.value) in
-    rw c.keys.view_is (inl (record { answer_is = rw none refl; content_is = rw none refl }))
+    rw c.keys.view_is (record { answer_is = rw none refl; content_is = rw none refl })
 
 pub invariant_of-keys-in_default-get_mut : goal.invariant_of-keys-in_default-get_mut
 invariant_of-keys-in_default-get_mut c =
@@ -23,10 +23,10 @@ returns-in_default-get_mut c =
     let found = sym c.in-Some.ensures.value ∙ ap Some (sym c.slot.view_is) in
     let had = shown-key c.keys.inside.slots c.args.keys.now c.keys.view_is c.args.key.now key found in
     let none : get key.groups c.args.group.now ≡ None = sym c.in_default-get_mut.ensures.value in
-    inl (record {
+    record {
       answer_is = rw (had, none) refl;
       content_is = shown-same c.keys.inside.slots c.args.keys.now c.keys.view_is c.args.key.now key found ∙ rw (had, none) refl;
-    })
+    }
 
 pub invariant_of-keys-2 : goal.invariant_of-keys-2
 invariant_of-keys-2 c =
@@ -48,5 +48,5 @@ returns c =
     rw (shown-change c.keys.inside.slots content c.keys.view_is name new)
     (elim c.match-added.branch [
       | in-Ok w ↦ rw (w.result-is, w.one_where.ensures) (makes-consumer content c.args.now name c.args.group.now c.args.consumer.now (key_state_of key) was after had there w.in-Ok.made w.in-Ok.ensures.made w.in-Ok.ensures.ok)
-      | in-Err w ↦ rw w.result-is (refuses-consumer content c.args.now name c.args.group.now c.args.consumer.now (key_state_of key) was after had there w.in-Err.ensures.err)
+      | in-Err w ↦ rw w.result-is (refuses-consumer content c.args.now name c.args.group.now c.args.consumer.now (key_state_of key) was after had there _ w.in-Err.ensures.err)
     ])

@@ -7,8 +7,8 @@ use Rattle.xs_keys.proofs.NamedRooms.{room-grown}
 use Rattle.xs_keys.proofs.KeyInPlace.{none-at}
 use Rattle.xs_keys.proofs.xgroup.create_in.Goals as goal
 
-pub returns-in-Ok-clause-counted : goal.returns-in-Ok-clause-counted
-returns-in-Ok-clause-counted c =
+pub returns-clause-counted : goal.returns-clause-counted
+returns-clause-counted c =
     let old = c.args.groups.now in
     let name = c.args.command.now.group in
     let new : GroupState = new_group (starting_id c.args.command.now.start c.args.top) in

@@ -1,4 +1,4 @@
-use Rattle.std.proofs.Common.{◌≡◌, Some, None, sym, ap, ◌∙◌, refl, inl}
+use Rattle.std.proofs.Common.{◌≡◌, Some, None, sym, ap, ◌∙◌, refl}
 use Rattle.xs_keys.specs.Terms.{get, insert, GroupState, Int}
 use Rattle.xs_keys.specs.ContentAfter.{with_group}
 use Rattle.xs_keys.specs.KeysRoom.{KeyInMemory, key_state_of}
@@ -9,7 +9,7 @@ use Rattle.xs_keys.proofs.xgroup.delete_consumer.Goals as goal
 pub returns-in_default : goal.returns-in_default
 returns-in_default c = λ now.
     let none = shown-none c.keys.inside.slots c.args.keys.now c.keys.view_is c.args.key.now (sym c.in_default.ensures.value) in
-    rw c.keys.view_is (inl (record { answer_is = rw none refl; content_is = rw none refl }))
+    rw c.keys.view_is (record { answer_is = rw none refl; content_is = rw none refl })
 
 pub invariant_of-keys-in_default-get_mut : goal.invariant_of-keys-in_default-get_mut
 invariant_of-keys-in_default-get_mut c =
@@ -22,10 +22,10 @@ returns-in_default-get_mut c = λ now.
     let found = sym c.in-Some.ensures.value ∙ ap Some (sym c.slot.view_is) in
     let had = shown-key c.keys.inside.slots c.args.keys.now c.keys.view_is c.args.key.now key found in
     let none : get key.groups c.args.group.now ≡ None = sym c.in_default-get_mut.ensures.value in
-    inl (record {
+    record {
       answer_is = rw (had, none) refl;
       content_is = shown-same c.keys.inside.slots c.args.keys.now c.keys.view_is c.args.key.now key found ∙ rw (had, none) refl;
-    })
+    }
 
 pub invariant_of-keys-2 : goal.invariant_of-keys-2
 invariant_of-keys-2 c =
@@ -42,8 +42,8 @@ returns c = λ now.
     let new : KeyInMemory = record { stream = c.slot.inside.stream; groups = insert c.slot.inside.groups c.args.group.now c.remove_consumer-count.new.self } in
     let had = shown-key c.keys.inside.slots content c.keys.view_is name key (sym c.in-Some.ensures.value ∙ ap Some (sym c.slot.view_is)) in
     let there : get key.groups c.args.group.now ≡ Some c.in-Some-get_mut.group.now = sym c.in-Some-get_mut.ensures.value in
-    inl (record {
+    record {
       answer_is = rw (had, there, c.new.ensures) (ap Int c.remove_consumer-count.ensures.count);
       content_is = shown-change c.keys.inside.slots content c.keys.view_is name new
           ∙ rw (had, there) (ap (λ (g : GroupState). insert content name (with_group (key_state_of key) c.args.group.now g)) c.remove_consumer-count.ensures.rows);
-    })
+    }

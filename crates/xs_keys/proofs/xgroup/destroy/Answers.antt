@@ -1,4 +1,4 @@
-use Rattle.std.proofs.Common.{◌≡◌, Some, sym, ap, ◌∙◌, refl, inl, arith}
+use Rattle.std.proofs.Common.{◌≡◌, Some, sym, ap, ◌∙◌, refl, arith}
 use Rattle.xs_keys.specs.Terms.{remove, insert}
 use Rattle.xs_group.specs.GroupRoom.{room_of_group}
 use Rattle.xs_keys.specs.KeysRoom.{KeyInMemory, content_of}
@@ -33,12 +33,12 @@ returns-after-removed c = λ now.
     let new : KeyInMemory = record { stream = c.slot.inside.stream; groups = c.remove-removed.new.self } in
     let had = shown-key c.keys.inside.slots content c.keys.view_is name key (sym c.in-Some.ensures.value ∙ ap Some (sym c.slot.view_is)) in
     let kept : c.match-removed.keys ≡ content_of (insert c.keys.inside.slots name new) = elim c.match-removed.branch [ in-Some-removed w ↦ w.keys-is | in_default w ↦ w.keys-is ] in
-    inl (record {
+    record {
       answer_is = rw (had, c.one_where.ensures, c.is_some.ensures, c.remove-removed.ensures.value) refl;
       content_is = kept ∙ shown-change c.keys.inside.slots content c.keys.view_is name new ∙ rw (had, c.remove-removed.ensures.map) refl;
-    })
+    }
 
 pub returns-in-None : goal.returns-in-None
 returns-in-None c = λ now.
     let none = shown-none c.keys.inside.slots c.args.keys.now c.keys.view_is c.args.key.now (sym c.in-None.ensures.value) in
-    rw c.keys.view_is (inl (record { answer_is = rw none refl; content_is = rw none refl }))
+    rw c.keys.view_is (record { answer_is = rw none refl; content_is = rw none refl })

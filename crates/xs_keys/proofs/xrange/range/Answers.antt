@@ -1,4 +1,4 @@
-use Rattle.std.proofs.Common.{◌≡◌, ℕ, Bool, true, false, List, [], Option, Some, None, ap, ◌∙◌, refl, inl}
+use Rattle.std.proofs.Common.{◌≡◌, ℕ, Bool, true, false, List, [], Option, Some, None, ap, ◌∙◌, refl}
 use Rattle.std.proofs.Math.Seq.{take-nil}
 use Rattle.xs_stream.specs.declared.range.Range.{Range}
 use Rattle.xs_resp.specs.Token.{Token}
@@ -24,10 +24,7 @@ pub returns-in_default : goal.returns-in_default
 unfolding none_with
 returns-in_default c = λ now.
     let command = c.args.command.now in
-    inl (record {
+    record {
       answer_is = rw (← c.in_default.ensures, none command.limit command.range command.reversed) (ap Array (c.new-in_default.ensures ∙ ap none_with c.new.ensures));
       content_is = refl;
-    })
-
-pub returns-in-Ok : goal.returns-in-Ok
-returns-in-Ok c = λ now. inl (record { answer_is = rw (← c.in-Some.ensures, ← c.slot.view_is) c.in-Ok.ensures; content_is = refl })
+    }

@@ -11,7 +11,7 @@ returns-in-New-clause-rows c =
     let read = c.args.read.now in
     let present = ids_of c.args.stream.now.entries in
     let group = c.args.group.now in
-    rw c.in-New.is (IfOk-weaker c.deliver.result (λ d. d ≡ delivery_of read.consumer read.limit read.noack present group) (λ d. row_ids d.rows ≡ new_ids read.limit group.cursor present)
+    rw c.in-New.is (IfOk-weaker c.deliver.result (λ d. d.delivery ≡ delivery_of read.consumer read.limit read.noack present group) (λ d. row_ids d.delivery.rows ≡ new_ids read.limit group.cursor present)
     (λ d e. ap (λ (k : Delivery). row_ids k.rows) e ∙ ids-new (new_ids read.limit group.cursor present)) c.deliver.ensures.answer)
 
 pub returns-in-After-clause-rows : goal.returns-in-After-clause-rows
@@ -19,5 +19,5 @@ returns-in-After-clause-rows c =
     let read = c.args.read.now in
     let present = ids_of c.args.stream.now.entries in
     let group = c.args.group.now in
-    rw c.in-After.is (IfOk-weaker c.history.result (λ d. d ≡ history_of read.consumer read.limit c.in-After.id present group) (λ d. row_ids d.rows ≡ reread_ids read.consumer read.limit c.in-After.id group.rows.entries)
+    rw c.in-After.is (IfOk-weaker c.history.result (λ d. d.delivery ≡ history_of read.consumer read.limit c.in-After.id present group) (λ d. row_ids d.delivery.rows ≡ reread_ids read.consumer read.limit c.in-After.id group.rows.entries)
     (λ d e. ap (λ (k : Delivery). row_ids k.rows) e ∙ ids-shown group.rows present (reread_ids read.consumer read.limit c.in-After.id group.rows.entries)) c.history.ensures.answer)

@@ -42,15 +42,15 @@ again : (c : After-slot) (was group : GroupState) → get c.slot.inside.groups c
     → insert c.keys.inside.slots c.args.one.now.key (with_group_in_memory (key c) c.args.read.now.group group) ≡ c.keys.inside.slots
 again c was group has same = slots-again c.keys.inside.slots c.args.one.now.key c.args.read.now.group (key c) was group (found c) has same
 
-pub invariant_of-keys-in-Break-1 : goal.invariant_of-keys-in-Break-1
-invariant_of-keys-in-Break-1 c =
-    let at = (goal.at.invariant_of-keys-in-Break-1 c).After-slot in
-    rw (again at c.in-Some-get_mut.group.now c.read_group.new.group (sym c.in-Some-get_mut.ensures.value) c.in_err-delivery.ensures.err) c.keys.invariant
+pub invariant_of-keys-in_err-group_read : goal.invariant_of-keys-in_err-group_read
+invariant_of-keys-in_err-group_read c =
+    let at = (goal.at.invariant_of-keys-in_err-group_read c).After-slot in
+    rw (again at c.in-Some-get_mut.group.now c.read_group.new.group (sym c.in-Some-get_mut.ensures.value) c.in_err-group_read.ensures.err) c.keys.invariant
 
-pub returns-in_err-delivery-clause-err : goal.returns-in_err-delivery-clause-err
-returns-in_err-delivery-clause-err c =
-    let at = (goal.at.returns-in_err-delivery-clause-err c).After-slot in
-    on_err-holds c.from_residual.result (ap content_of (again at c.in-Some-get_mut.group.now c.read_group.new.group (sym c.in-Some-get_mut.ensures.value) c.in_err-delivery.ensures.err) ∙ c.keys.view_is)
+pub returns-in_err-group_read-clause-err : goal.returns-in_err-group_read-clause-err
+returns-in_err-group_read-clause-err c =
+    let at = (goal.at.returns-in_err-group_read-clause-err c).After-slot in
+    on_err-holds c.from_residual.result (ap content_of (again at c.in-Some-get_mut.group.now c.read_group.new.group (sym c.in-Some-get_mut.ensures.value) c.in_err-group_read.ensures.err) ∙ c.keys.view_is)
 
 pub invariant_of-keys-in-Ok : goal.invariant_of-keys-in-Ok
 invariant_of-keys-in-Ok c =
@@ -62,17 +62,20 @@ invariant_of-keys-in-Ok c =
 pub returns-in-Ok-clause-ok : goal.returns-in-Ok-clause-ok
 returns-in-Ok-clause-ok c =
     let at = (goal.at.returns-in-Ok-clause-ok c).After-slot in
-    let delivered = c.in_ok-delivery.ensures in
+    let delivered = c.in_ok-group_read.ensures in
     rw (group-put c.keys.inside.slots c.args.keys.now c.keys.view_is c.args.one.now.key (key at) c.args.read.now.group c.read_group.new.group)
-    (served-at c.args.now c.args.read.now c.args.one.now c.args.keys.now (key_state_of (key at)) c.in-Some-get_mut.group.now c.read_group.new.group c.args.tokens.now c.push_part.new.tokens (row_ids c.as_slice-rows.result.now) _ (had at) (sym c.in-Some-get_mut.ensures.value)
-    delivered.ok (ap row_ids c.as_slice-rows.ensures ∙ delivered.rows) c.in-Ok.ensures delivered.made)
+    (served-at c.args.now c.args.read.now c.args.one.now c.args.keys.now (key_state_of (key at)) c.in-Some-get_mut.group.now c.read_group.new.group c.args.tokens.now c.push_part.new.tokens (row_ids c.in_ok-group_read.group_read.delivery.rows) _ (had at) (sym c.in-Some-get_mut.ensures.value)
+    delivered.ok delivered.rows c.in-Ok.ensures delivered.made)
 
-pub invariant_of-keys-in-Err : goal.invariant_of-keys-in-Err
-invariant_of-keys-in-Err c =
-    let at = (goal.at.invariant_of-keys-in-Err c).After-slot in
-    rw (again at c.in-Some-get_mut.group.now c.undo.new.self (sym c.in-Some-get_mut.ensures.value) (c.undo.ensures c.in-Some-get_mut.group.now c.in_ok-delivery.ensures.made)) c.keys.invariant
+pub undo-requires : goal.undo-requires
+undo-requires c = (c.in-Some-get_mut.group.now, c.in_ok-group_read.ensures.made)
 
-pub returns-in-Err-clause-err : goal.returns-in-Err-clause-err
-returns-in-Err-clause-err c =
-    let at = (goal.at.returns-in-Err-clause-err c).After-slot in
-    ap content_of (again at c.in-Some-get_mut.group.now c.undo.new.self (sym c.in-Some-get_mut.ensures.value) (c.undo.ensures c.in-Some-get_mut.group.now c.in_ok-delivery.ensures.made)) ∙ c.keys.view_is
+pub invariant_of-keys-2 : goal.invariant_of-keys-2
+invariant_of-keys-2 c =
+    let at = (goal.at.invariant_of-keys-2 c).After-slot in
+    rw (again at c.in-Some-get_mut.group.now c.undo.new.self (sym c.in-Some-get_mut.ensures.value) (c.undo.ensures c.in-Some-get_mut.group.now c.in_ok-group_read.ensures.made)) c.keys.invariant
+
+pub returns-clause-err : goal.returns-clause-err
+returns-clause-err c =
+    let at = (goal.at.returns-clause-err c).After-slot in
+    ap content_of (again at c.in-Some-get_mut.group.now c.undo.new.self (sym c.in-Some-get_mut.ensures.value) (c.undo.ensures c.in-Some-get_mut.group.now c.in_ok-group_read.ensures.made)) ∙ c.keys.view_is

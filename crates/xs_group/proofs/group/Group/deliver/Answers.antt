@@ -5,19 +5,19 @@ use Rattle.xs_group.proofs.Cursors.{new_ids-above}
 
 pub receive-requires-clause-above : goal.receive-requires-clause-above
 receive-requires-clause-above c =
-    rw (← c.self.view_is) (subst (AllAbove c.self.inside.cursor) (sym (c.as_slice-3.ensures ∙ c.in_ok-ids.ensures.ids))
+    rw (← c.self.view_is) (subst (AllAbove c.self.inside.cursor) (sym (c.as_slice-4.ensures ∙ c.in_ok-ids.ensures ∙ ap ids_of c.as_slice.ensures ∙ c.in_ok-entries.ensures.ids))
     (new_ids-above c.args.limit c.self.inside.cursor (ids_of c.args.stream.now.entries)))
 
 pub returns-clause-answer : goal.returns-clause-answer
 returns-clause-answer c =
     let ids : GroupState → List Id = λ g. new_ids c.args.limit g.cursor (ids_of c.args.stream.now.entries) in
     λ i. record {
-      consumer = (c.in_ok-text.ensures ∙ c.as_slice-2.ensures) i;
+      consumer = (c.in_ok-text.ensures ∙ c.as_slice-3.ensures) i;
       created = c.in_ok-created.ensures.made i;
       seen_before = (c.seen_at-seen_before.ensures ∙ ap (λ (g : GroupState). get g.consumers c.args.consumer.now) c.self.view_is) i;
       cursor_before = (c.self.view_is i).cursor;
       kind = c.kind_of.ensures i;
-      rows = (c.new.ensures ∙ c.in_ok-rows.ensures ∙ ap new_rows (c.as_slice.ensures ∙ c.in_ok-ids.ensures.ids ∙ ap ids c.self.view_is)) i;
+      rows = (c.new.ensures ∙ c.in_ok-rows.ensures ∙ ap new_rows (c.as_slice-2.ensures ∙ c.in_ok-ids.ensures ∙ ap ids_of c.as_slice.ensures ∙ c.in_ok-entries.ensures.ids ∙ ap ids c.self.view_is)) i;
     }
 
 pub returns-clause-ok : goal.returns-clause-ok

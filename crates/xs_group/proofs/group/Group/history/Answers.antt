@@ -21,8 +21,8 @@ left c =
     let held = c.self.inside.pending in
     let present = ids_of c.args.stream.now.entries in
     let given = list_any (has_id present) (shown c) in
-    let is : c.as_slice-3.result.now ≡ shown_rows held.rows present (shown c) = c.as_slice-3.ensures.value ∙ c.in_ok-rows.ensures ∙ ap (shown_rows held.rows present) (c.as_slice.ensures ∙ c.in_ok-ids.ensures) in
-    c.redeliver.ensures ∙ ap (λ (h : PendingList). record { consumers = with_name h.consumers c.args.consumer.now c.args.now (list_any (λ r. r.present) c.as_slice-3.result.now); rows = set_rows (Some c.args.now) c.as_slice-3.result.now h.rows }) c.in_ok-created.ensures.ok
+    let is : c.as_slice-5.result.now ≡ shown_rows held.rows present (shown c) = c.as_slice-5.ensures.value ∙ c.in_ok-rows.ensures ∙ ap (shown_rows held.rows present) (c.as_slice-3.ensures ∙ c.in_ok-ids.ensures) in
+    c.redeliver.ensures ∙ ap (λ (h : PendingList). record { consumers = with_name h.consumers c.args.consumer.now c.args.now (list_any (λ r. r.present) c.as_slice-5.result.now); rows = set_rows (Some c.args.now) c.as_slice-5.result.now h.rows }) c.in_ok-created.ensures.ok
     ∙ ap (λ rs. record { consumers = with_name (with_name held.consumers c.args.consumer.now c.args.now false) c.args.consumer.now c.args.now (list_any (λ r. r.present) rs); rows = set_rows (Some c.args.now) rs held.rows }) is
     ∙ (λ i. record { consumers = with_name (with_name held.consumers c.args.consumer.now c.args.now false) c.args.consumer.now c.args.now (any-shown held.rows present (shown c) i); rows = rows-reread c.args.now present (shown c) held.rows i })
     ∙ ap (λ consumers. record { consumers = consumers; rows = change (row_after_reread c.args.now (shown c) present) held.rows }) (given-then held.consumers c.args.consumer.now c.args.now given)

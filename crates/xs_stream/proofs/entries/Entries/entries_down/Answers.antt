@@ -5,8 +5,7 @@ use Rattle.std.specs.declared.ops.Bound.TheVariants.{Included}
 use Rattle.xs_stream.specs.Id.{id_cmp}
 use Rattle.xs_stream.specs.Blocks.{contents, entries_of_blocks, end_at}
 use Rattle.xs_stream.proofs.Contents.{contents-between, contents-append}
-use Rattle.xs_stream.proofs.WithinBlocks.{walk-forward, take-full}
-use Rattle.xs_stream.proofs.WithinEntries.{within, walk-within, down-more, down-newest}
+use Rattle.xs_stream.proofs.WithinBlocks.{within, walk-forward, walk-within, down-more, down-newest, take-full}
 use Rattle.xs_stream.proofs.entries.Entries.entries_down.Goals as goal
 use Rattle.xs_stream.proofs.entries.Entries.entries_down.Goals.{in-None, in-Some+then-len-most}
 

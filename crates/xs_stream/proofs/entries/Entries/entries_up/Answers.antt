@@ -5,8 +5,7 @@ use Rattle.xs_stream.specs.Id.{is_below}
 use Rattle.xs_stream.specs.Blocks.{contents, entries_of_blocks, AreFiled}
 use Rattle.xs_stream.proofs.Contents.{contents-between}
 use Rattle.xs_stream.proofs.Order.{partial-le, le-not_below}
-use Rattle.xs_stream.proofs.WithinEntries.{within, walk-open, none-above, up-more}
-use Rattle.xs_stream.proofs.WithinBlocks.{filed-some, not_true, take-full}
+use Rattle.xs_stream.proofs.WithinBlocks.{within, walk-open, filed-some, none-above, not_true, up-more, take-full}
 use Rattle.xs_stream.proofs.entries.Entries.entries_up.Goals as goal
 use Rattle.xs_stream.proofs.entries.Entries.entries_up.Goals.{then-le-via-then-le, then-le-via-else-le+then-len-most}
 

@@ -1,6 +1,6 @@
 use Rattle.std.proofs.Common.{◌≡◌, ◌≤◌, ◌++◌, length, take}
 use Rattle.xs_stream.specs.Blocks.{contents, entries_of_blocks, all_of, AreFiled}
-use Rattle.xs_stream.proofs.WithinEntries.{within}
+use Rattle.xs_stream.proofs.WithinBlocks.{within}
 use Rattle.xs_stream.proofs.entries.Entries.entries_up.Given as goal
 
 -- the entries so far and those to come are those of the range

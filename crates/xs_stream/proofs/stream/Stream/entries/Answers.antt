@@ -7,7 +7,7 @@ use Rattle.xs_stream.specs.Id.{is_below}
 use Rattle.xs_stream.specs.StreamContent.{entries_within, AreEntriesOf}
 use Rattle.xs_stream.specs.Blocks.{all_of}
 use Rattle.xs_stream.proofs.Order.{partial-below}
-use Rattle.xs_stream.proofs.WithinEntries.{within, within-none}
+use Rattle.xs_stream.proofs.WithinBlocks.{within, within-none}
 use Rattle.xs_stream.proofs.Lending.{within-found}
 use Rattle.xs_stream.proofs.stream.Stream.entries.Goals as goal
 use Rattle.xs_stream.proofs.stream.Stream.entries.Goals.{then-reversed+in_ok-entries, else-reversed+in_ok-entries-2}
