@@ -53,7 +53,7 @@ pub struct Delivery {
 /// A read of a group, and entries of its stream to look at side by side with the rows.
 #[derive(Drop)]
 pub struct GroupRead<'a> {
-    /// What was read.
+    /// The read.
     pub delivery: Delivery,
     /// The entries. They are lent, and each is the one that a search for its id finds.
     pub entries: List<Entry<'a>>,

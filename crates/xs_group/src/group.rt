@@ -232,8 +232,8 @@ impl Group {
         self.pending.has_consumer(consumer) && id <= self.cursor && self.pending.is_past_rows(id)
     }
 
-    /// Delivers the entries above the cursor to a consumer, who is there from then on (XREADGROUP with
-    /// `>`). With `noack` they don't become pending.
+    /// Delivers the entries above the cursor to a consumer, which is created if it is missing (XREADGROUP with `>`).
+    /// With `noack` they don't become pending.
     pub fn deliver<'a>(
         &mut self,
         alloc: Global,
@@ -269,8 +269,8 @@ impl Group {
         Ok(GroupRead { delivery, entries })
     }
 
-    /// Shows a consumer its own pending entries above an id, and delivers those that are in the stream
-    /// once more (XREADGROUP with an id). The consumer is there from then on.
+    /// Shows a consumer its own pending entries above an id, and delivers those that are in the stream once more
+    /// (XREADGROUP with an id). The consumer is created if it is missing.
     pub fn history<'a>(
         &mut self,
         alloc: Global,

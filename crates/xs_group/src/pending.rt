@@ -274,7 +274,7 @@ impl Pending {
         }
     }
 
-    /// The rows of entries that are shown. An entry that stands among those that are lent, at the place of its id, isn't
+    /// The rows of entries that are shown. An entry that is among those that are lent, at the place of its id, isn't
     /// looked up.
     pub(crate) fn shown_rows(
         &self,

@@ -56,7 +56,7 @@ module _ (base : ℕ) (names : List ℕ) (range : Range) where
       let e : suc count - suc n ≡ count - n = omega arith in
       rw (outside (entry_id base bytes) all.0, e) (within-behind count n (after_entry bytes) (omega arith) all.1)
 
--- so a walk may begin behind them
+-- so a walk may begin after them
 module _ (packed : PackedEntries) (n : ℕ) (rest : List ℕ) (few : n ≤ packed.count) (left : rest ≡ after_entries n (drop packed.start packed.bytes.now)) where
   pub lookup-start : (id : Id) → AllBelow id (packed_ids packed.base n (drop packed.start packed.bytes.now)) → fields_at (unpacked_entries packed) id ≡ fields_at (packed_entries packed.base (first_text packed.bytes.now) (packed.count - n) rest) id
   lookup-start id all = rw left (lookup-behind packed.base (first_text packed.bytes.now) id packed.count n (drop packed.start packed.bytes.now) few all)

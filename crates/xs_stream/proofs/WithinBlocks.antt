@@ -34,7 +34,7 @@ within range es = filter (λ e. is_within range e.0) es
 pub within-append : (range : Range) (es fs : Entries) → within range (es ++ fs) ≡ within range es ++ within range fs
 within-append range es fs = filter-append (λ (e : Id × List Field). is_within range e.0) es fs
 
--- nothing is within a range whose ends stand the other way
+-- nothing is within a range whose low end is above its high end
 pub within-none : (range : Range) → is_below range.high range.low ≡ true → (es : Entries) → within range es ≡ []
 within-none range h [] = refl
 within-none range h (e ∷ es) = rw (not_within range h e.0) (within-none range h es)

@@ -542,8 +542,8 @@ impl Entries {
         Ok(shown)
     }
 
-    /// Whether an id is nearer to those of the first blocks than to those of the last ones, so that fewer blocks are below it
-    /// than above it, if ids come evenly.
+    /// Whether an id is nearer to those of the first blocks than to those of the last ones, so that fewer blocks are
+    /// below it than above it if ids are spread evenly.
     fn is_nearer_first(&self, id: Id) -> bool {
         match (self.older.first_key_value(), self.older.last_key_value()) {
             (Some((first, _)), Some((last, _))) => {
@@ -553,8 +553,8 @@ impl Entries {
         }
     }
 
-    /// How many entries have ids above a cursor. The blocks on both sides of it are counted by turns, until one side has no
-    /// more: more of them at a time on the side that has fewer, if ids come evenly.
+    /// The number of entries with ids above a cursor. The blocks on both sides of it are counted by turns, until one
+    /// side has no more: more of them at a time on the side that has fewer if ids are spread evenly.
     pub(crate) fn count_past(&self, cursor: Id) -> usize
         requires laid_down { IsLaidDown self.now }
         requires ids { AllIds (ids_of (all_of self.now)) }
