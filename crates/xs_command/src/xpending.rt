@@ -20,7 +20,7 @@ pub(crate) fn read(alloc: Global, words: &Words<'_>) -> Result<Command, Refusal>
     read_form(alloc, key, group, &words)
 }
 
-/// Nothing, or the long form. The number of words is checked first.
+/// Reads the long form, or the short one if no words are left. The number of words is checked first.
 #[tactic(auto, unfolding(crate::specs::Xpending::form, crate::specs::Words::word))]
 fn read_form(alloc: Global, key: Bytes, group: Bytes, words: &Words<'_>) -> Result<Command, Refusal>
     ensures { Gives result (form key group words.now) }

@@ -168,9 +168,9 @@ impl Client {
         Some(answer)
     }
 
-    /// Waits after a `take` that returned nothing. Between two such calls a `take` has to look for an answer. After
-    /// many in a row it parks until the keeper has answered or is gone; before that it returns at once, for another
-    /// `take`.
+    /// Waits. It must be called only after a `take` that returned nothing: between two such calls a `take` has to look
+    /// for an answer. After many in a row it parks until the keeper has answered or is gone; before that it returns at
+    /// once, for another `take`.
     pub fn idle<R: Wait>(&self, rt: &R) {
         self.backoff.snooze(rt);
     }

@@ -227,7 +227,7 @@ impl<J: Journal + Drop> Keeper<J> {
             &mut self.journal,
             span,
         );
-        // The type of the place, a number of 64 bits, is known once it is read.
+        // The proof knows that the place is a number of 64 bits once it is read.
         let _place = self.place;
         let Ok(count) = served else {
             say_gone(&self.lane_ends, &self.gone);
@@ -254,9 +254,9 @@ impl<J: Journal + Drop> Keeper<J> {
         Ok(release_each(&mut self.lane_ends))
     }
 
-    /// Waits after a turn that served no call. Between two such calls a turn has to look at the lanes. After many such
-    /// turns in a row it parks until a lane or a waker gives the keeper's token; before that it returns at once, for
-    /// another turn.
+    /// Waits. It must be called only after a turn that served no call: between two such calls a turn has to look at the
+    /// lanes. After many such turns in a row it parks until a lane or a waker gives the keeper's token; before that it
+    /// returns at once, for another turn.
     pub fn idle<R: Wait>(&self, rt: &R) {
         self.schedule.backoff.snooze(rt);
     }

@@ -12,8 +12,8 @@ use xs_replay::{EventLog, LogFailed};
 use xs_resp::Reply;
 use xs_stream::Moment;
 
-/// The journal of a desk with a log: calls that may have changed something are noted, and answers wait until the log
-/// keeps the events before them.
+/// The journal of a desk with a log: calls that may have changed something are noted, and an answer waits until the
+/// log keeps the events of its call and of those before it.
 #[derive(Drop)]
 pub struct LogJournal<L: EventLog + Drop> {
     log: L,

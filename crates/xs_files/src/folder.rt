@@ -85,7 +85,7 @@ fn open_lock<R: Files<File = File>>(
     }
 }
 
-/// Takes a lock. If another process has it, this is the fault `taken`.
+/// Takes a lock. The fault is `taken` if another process has it.
 fn try_lock(file: File, taken: FolderFault) -> Result<File, FolderFault> {
     match file.try_lock() {
         Ok(()) => Ok(file),

@@ -86,7 +86,7 @@ impl Reserve {
     }
 
     /// Checks that the bytes that are left to others are free, before an addition whose reply takes `reply_bytes`
-    /// bytes: at the first addition, and then each time that a piece was added.
+    /// bytes: at the first addition, and then each time that replies of a piece's size were added.
     fn look(&mut self, alloc: Global, reply_bytes: usize) -> Result<(), AllocError>
         ensures { self.new ≡ self.old }
     {

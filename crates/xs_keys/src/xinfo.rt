@@ -61,8 +61,8 @@ fn push_members(tokens: &mut Tokens, name: &Bytes, group: &Group) -> Result<(), 
     push_number(tokens, b"pending", group.count_pending())
 }
 
-/// Appends the number of entries up to the cursor of a group, or the null string if the cursor gives no number. `lag`
-/// entries are above the cursor.
+/// Appends the number of entries ever added up to the cursor of a group, or the null string if the cursor gives no
+/// number. `lag` entries are above the cursor.
 fn push_read(tokens: &mut Tokens, stream: &Stream, cursor: Id, lag: u64) -> Result<(), AllocError>
     requires { lag ≡ lag_of (state_of stream.now) cursor }
     ensures { OnOk result (tokens.new ≡ tokens.old ++ tokens_of (read_reply (state_of stream.now) cursor)) }

@@ -21,7 +21,7 @@ pub enum Place {
     Answer(Reply),
     /// It waits for a reply, which is the answer.
     Awaits,
-    /// It waits for a reply with the number of keys. The answer has this text, and then that number.
+    /// It waits for a reply with the number of keys. The answer has this text, and then the line with that number.
     AwaitsKeys(Information),
 }
 

@@ -61,7 +61,7 @@ pub enum Turn {
 /// The bytes of requests that can be held without more memory: those of one read, and twice a request of 16 KiB.
 const REQUEST_BYTES: usize = 131_072;
 
-/// How often a session waits for a piece of its reserve before it takes requests without one.
+/// How often a session waits at most for a piece of its reserve before it takes requests without one.
 const MOST_WAITS: u32 = 20;
 
 /// The most sessions at once.

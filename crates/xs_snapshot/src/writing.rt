@@ -181,7 +181,8 @@ fn complete_snapshot<T: Tape + Drop>(
 /// there was one.
 ///
 /// # Errors
-/// A `WriteFault`, like that of `put_keys`. The file isn't a snapshot then, and the tape is dropped.
+/// A `WriteFault`: out of memory; or the tape failed; or a piece has too many words, or too long ones, or there are
+/// 2^64 pieces or more. The file isn't a snapshot then, and the tape is dropped.
 pub fn write_snapshot<T: Tape + Drop>(
     alloc: Global,
     tape: T,

@@ -23,7 +23,7 @@ const BEAT_MILLIS: u64 = 1000;
 /// How long a worker lets other threads go on while it waits for memory, or for the keeper's figures, in milliseconds.
 const REST_MILLIS: u64 = 1;
 
-/// How often it does so for the keeper's figures.
+/// How often it does so at most for the keeper's figures.
 const MOST_RESTS: u32 = 1000;
 
 /// After how many milliseconds a worker sends the replies to the requests before the one whose answer it waits for.

@@ -52,8 +52,8 @@ fn run_to_end_of_keeper<
 }
 
 /// Serves the connections of 1 to 1024 gates like `work_with`, over a keyspace with the content after a log's events.
-/// Before them the content was `first`. An answer is handed out once the log keeps the events before it. The work ends
-/// if the log fails, or if no gate gives a further connection. Returns why it ended.
+/// Before them the content was `first`. An answer is handed out once the log keeps the events of its call and of those
+/// before it. The work ends if the log fails, or if no gate gives a further connection. Returns why it ended.
 pub fn work_logged<
     L: EventLog + Send + Drop + 'static,
     G: Gate + Send + Drop + 'static,

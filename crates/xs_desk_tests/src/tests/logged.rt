@@ -1,4 +1,4 @@
-//! A desk with a log: an answer is handed out once the log keeps the events before it.
+//! A desk with a log: an answer is handed out once the log keeps the events of its call and of those before it.
 use super::counting_log::{CountingLog, Counts};
 use super::steps::Step::{Asks, Settled, Told, ToldNothing, Turn};
 use super::steps::{SmallDesk, play, submits};
