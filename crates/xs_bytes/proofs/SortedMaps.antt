@@ -1,4 +1,4 @@
--- What sorted maps answer.
+-- What lookups in sorted maps return.
 use Rattle.std.proofs.Common.{◌≡◌, Bool, true, false, cond, not, ◌&&◌, List, [], ◌∷◌, Option, Some, None}
 use Rattle.std.proofs.Common.{option_and_then, sym, ap, subst, ◌∙◌, refl, Ordering}
 use Rattle.std.proofs.Math.Dec.{T, T_prop}
@@ -34,12 +34,12 @@ module _ {K X : Type 0} {R : K → K → Ordering} where
   get-of_entries o [] q = get-empty R q
   get-of_entries o (e ∷ es) q = get-insert_by o (of_entries o es) e.0 e.1 q ∙ ap (cond (eq_by_cmp R q e.0) (Some e.1)) (get-of_entries o es q)
 
-  -- maps of the same entries are one
+  -- maps of the same entries are equal
   pub same_entries_map : (m n : SortedMap R X) → m.entries ≡ n.entries → m ≡ n
   same_entries_map m n e =
       subst (λ es. (s : T (is_sorted R es)) → m ≡ record { entries = es; sorted = s }) e (λ s i. record { entries = m.entries; sorted = T_prop _ m.sorted s i }) n.sorted
 
-  -- so are maps that answer alike
+  -- maps that return the same value at each key are equal
   pub same_map : IsTotalOrder R → IsAntisymmetric R → (m n : SortedMap R X) → ((q : K) → get m q ≡ get n q) → m ≡ n
   unfolding get
   same_map o same m n is = same_entries_map m n (same_entries R o same m.entries n.entries m.sorted n.sorted is)

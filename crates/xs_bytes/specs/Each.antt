@@ -1,15 +1,15 @@
--- What becomes of each entry of a list of entries. A list in the order of its keys stays so.
+-- A list of entries with each value changed or removed. A list in the order of its keys stays in that order.
 use Rattle.std.specs.Prelude.{Bool, true, false, ◌&&◌, T, List, [], ◌∷◌, Option, Some, None}
 use Rattle.std.specs.FinMap.Entries.{below_all, is_sorted}
 use Rattle.std.specs.declared.cmp.Ordering.{Ordering}
 
 module _ {K X : Type 0} where
-  -- a value, where one is left, before the other entries
+  -- a value, if there is one, before the other entries
   abbrev pub with_some : K → Option X → List (K × X) → List (K × X)
   with_some k None es = es
   with_some k (Some x) es = (k, x) ∷ es
 
-  -- the entries with what becomes of each value; an entry goes where nothing does
+  -- the entries with each value changed by `f`; an entry for which `f` has no value is removed
   abbrev pub each : (K → X → Option X) → List (K × X) → List (K × X)
   each f [] = []
   each f (e ∷ es) = with_some e.0 (f e.0 e.1) (each f es)

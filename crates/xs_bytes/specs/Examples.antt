@@ -1,5 +1,5 @@
--- What digits are worth and what maps hold, by examples. Numbers are decimal, and below 2^64. Maps of names go by the
--- order of bytes: `a` is before `aa`, and `aa` before `b`, as Redis compares strings.
+-- The values of digits and the contents of maps, by examples. Numbers are decimal, and below 2^64. Maps of names are in
+-- the order of bytes: `a` is before `aa`, and `aa` before `b`, as Redis compares strings.
 use Rattle.std.specs.Prelude.{◌≡◌, ℕ, ◌+◌, ◌==◌, true, false, List, [], ◌∷◌, codes, Option, Some, None}
 use Rattle.std.specs.Prelude.{if◌then◌else◌}
 use Rattle.xs_bytes.specs.Number.{is_digit, with_digit, value_of, is_number, number_of, has_leading_zero, natural_of}
@@ -44,7 +44,7 @@ three = from_entries ((codes "b", 2) ∷ (codes "aa", 1) ∷ (codes "c", 3) ∷ 
 abbrev pub none : NameMap ℕ
 none = empty
 
--- twice a number, and nothing of 2
+-- twice a number; None for 2
 abbrev pub twice : List ℕ → ℕ → Option ℕ
 twice name number = if number == 2 then None else Some (number + number)
 

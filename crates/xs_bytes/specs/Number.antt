@@ -11,11 +11,11 @@ is_digit byte = nat_le 48 byte && nat_le byte 57
 abbrev pub with_digit : ℕ → ℕ → ℕ
 with_digit n byte = n * 10 + (byte - 48)
 
--- what digits are worth
+-- the value of digits
 abbrev pub value_of : List ℕ → ℕ
 value_of text = fold with_digit 0 text
 
--- not empty, and digits alone
+-- not empty, and only digits
 abbrev pub is_number : List ℕ → Bool
 is_number text = nat_lt 0 (length text) && list_all is_digit text
 
@@ -23,7 +23,7 @@ is_number text = nat_lt 0 (length text) && list_all is_digit text
 abbrev pub number_of : List ℕ → Option ℕ
 number_of text = if is_number text && nat_lt (value_of text) (2 ^ 64) then Some (value_of text) else None
 
--- it begins with a '0' that isn't all of it
+-- it begins with a '0' and has more bytes
 abbrev pub has_leading_zero : List ℕ → Bool
 has_leading_zero [] = false
 has_leading_zero (byte ∷ []) = false

@@ -1,4 +1,4 @@
--- A finite map as a value: its entries in the order of their keys. What a definition says of such a map computes.
+-- A finite map as a value: its entries in the order of their keys. Definitions on such a map compute.
 use Rattle.std.specs.Prelude.{ℕ, Bool, not, T, List, [], map, Option, is_some}
 use Rattle.std.specs.FinMap.Entries.{find, put, where_key, is_sorted, is_sorted-put, is_sorted-where_key}
 use Rattle.std.specs.Ordering.{nat_cmp, eq_by_cmp}
@@ -36,11 +36,11 @@ module _ {K X : Type 0} {R : K → K → Ordering} where
       let other : K → Bool = λ x. not (eq_by_cmp R k x) in
       record { entries = where_key R other m.entries; sorted = is_sorted-where_key R other m.entries m.sorted }
 
-  -- with what becomes of each value by its key; an entry goes where nothing does
+  -- with each value changed by `f`; an entry for which `f` has no value is removed
   unfoldable pub change : (K → X → Option X) → SortedMap R X → SortedMap R X
   change f m = record { entries = each f m.entries; sorted = is_sorted-each R f m.entries m.sorted }
 
--- a map by names, in the order of their bytes
+-- a map from names, in the order of their bytes
 abbrev pub NameMap : Type 0 → Type 0
 NameMap X = SortedMap {K = List ℕ} (slice_cmp nat_cmp) X
 

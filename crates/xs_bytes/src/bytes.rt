@@ -27,7 +27,7 @@ pub(crate) enum Stored {
     Long(Vec<u8>),
 }
 
-// No more than a vector and a tag, for which the room of short ones is chosen.
+// The size of a vector and a tag: `INLINE_BYTES` is chosen for it.
 const _: () = prove!(size_of::<Bytes>() == 32);
 
 impl Model for Bytes {
@@ -63,7 +63,7 @@ impl Bytes {
         Ok(Self::new(Vec::from_slice(alloc, items)?))
     }
 
-    /// A text, a byte, and a second text, at its exact size.
+    /// A text, a byte, and a second text, joined at their exact size.
     pub fn join(alloc: Global, first: &[u8], between: u8, second: &[u8]) -> Result<Self, AllocError>
         ensures { IfOk result (λ b. b ≡ first.now ++ between ∷ second.now) }
     {
@@ -94,7 +94,7 @@ impl Bytes {
         }
     }
 
-    /// How many bytes there are.
+    /// The number of bytes.
     pub fn len(&self) -> usize
         ensures { result ≡ length self.now }
     {

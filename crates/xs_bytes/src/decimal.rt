@@ -6,8 +6,8 @@ use crate::bytes::Bytes;
 use itoa::Buffer;
 use std::alloc::{AllocError, Global};
 
-/// The number that a text of decimal digits spells, where it is below 2^64. Leading zeros are
-/// accepted. None for any other text, the empty one included.
+/// The number that a text of decimal digits spells, if it is below 2^64. Leading zeros are accepted. None for any other
+/// text, the empty one included.
 pub fn number(text: &[u8]) -> Option<u64>
     ensures { result ≡ number_of text.now }
 {
@@ -34,7 +34,7 @@ pub fn natural(text: &[u8]) -> Option<u64>
     }
 }
 
-/// Appends a number in decimal. `out` is unchanged on refusal.
+/// Appends a number in decimal. If memory runs out, `out` is unchanged.
 pub fn push_decimal(out: &mut Vec<u8>, value: u64) -> Result<(), AllocError>
     ensures ok { OnOk result (out.new.items ≡ out.old.items ++ decimal value) }
     ensures err { OnErr result (out.new.items ≡ out.old.items) }

@@ -1,4 +1,4 @@
-//! Examples of what the definitions say, with values from outside.
+//! Examples of the definitions, with expected values from outside.
 ghost use Rattle.xs_bytes.specs.Examples.{Numbers, Maps};
 
 /// Decimal numbers in text.

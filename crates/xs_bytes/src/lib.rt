@@ -1,4 +1,4 @@
-//! Byte strings, the decimal numbers that stand in them, lists, and maps as contracts see them.
+//! Byte strings, decimal numbers in text, lists, and maps as contracts see them.
 #![tactic(auto)]
 
 pub mod bytes;

@@ -3,7 +3,7 @@ ghost use Rattle.std.specs.Prelude.{◌≡◌, ◌==◌, length};
 
 use std::marker::Model;
 
-/// A list of values, as ids, fields or words. A contract sees the list, and not the vector that holds it.
+/// A list of values, such as ids, fields or words. A contract sees the list, not the vector that holds it.
 #[derive(Debug, Drop)]
 pub struct List<T> {
     items: Vec<T>,
@@ -25,7 +25,7 @@ impl<T> List<T> {
         Self { items }
     }
 
-    /// Gives the values back. It takes no memory.
+    /// Returns the vector of the values. It takes no memory.
     pub fn into_vec(self) -> Vec<T>
         ensures { result.items ≡ self }
     {
@@ -40,14 +40,14 @@ impl<T> List<T> {
         self.items.as_slice()
     }
 
-    /// How many values there are.
+    /// The number of values.
     pub fn len(&self) -> usize
         ensures { result ≡ length self.now }
     {
         self.items.len()
     }
 
-    /// Whether there is no value.
+    /// Whether there are no values.
     pub fn is_empty(&self) -> bool
         ensures { result ≡ (length self.now == 0) }
     {

@@ -3,7 +3,7 @@ ghost use Rattle.std.specs.Prelude.{◌≡◌, ◌≤◌, ◌+◌, [], ◌++◌,
 
 use std::marker::Model;
 
-/// So many bytes fit.
+/// The most bytes that fit.
 pub const INLINE_BYTES: usize = 30;
 
 /// At most 30 bytes. They take no memory of their own.

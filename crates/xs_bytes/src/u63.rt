@@ -3,7 +3,8 @@ ghost use Rattle.std.specs.Prelude.{◌≡◌, ◌<◌, ◌^◌};
 
 use std::marker::Model;
 
-/// A number from 0 to 9223372036854775807: one that a signed integer of 64 bits can hold. Integers in replies are such.
+/// A number from 0 to 9223372036854775807, which a signed integer of 64 bits can hold. Integers in replies are such
+/// numbers.
 #[derive(Clone, Copy, Debug, PartialEq, Eq, PartialOrd, Ord)]
 pub struct U63 {
     value: u64,
@@ -25,7 +26,7 @@ impl U63 {
     /// The greatest one.
     pub const MAX: u64 = 9_223_372_036_854_775_807;
 
-    /// The number, which is below 2^63.
+    /// Makes it from a number below 2^63.
     pub fn new(value: u64) -> U63
         requires { value < 2 ^ 63 }
         ensures { result ≡ value }

@@ -9,11 +9,11 @@ use std::time::Duration;
 use xs_keys::Clock;
 use xs_stream::Moment;
 
-/// By which part of the time that passes the wall clock may be gained on, at most.
+/// The time catches up with the wall clock by at most this part of the time that passes: one tenth.
 const GAIN: u32 = 10;
 
-/// The time so long behind the last one: so much later, and while the wall clock is ahead of that, up to a tenth more.
-/// None past the greatest duration.
+/// The time `elapsed` after the last one: later by that, and while the wall clock is ahead of it, by up to a tenth
+/// more. None above the greatest duration.
 fn time_after(last: Duration, elapsed: Duration, wall: Duration) -> Option<Duration>
     ensures time { IfSome result (λ time. as_nanos time
         ≡ time_after (as_nanos last) (as_nanos elapsed) (as_nanos wall)) }
@@ -30,7 +30,7 @@ fn time_after(last: Duration, elapsed: Duration, wall: Duration) -> Option<Durat
     }
 }
 
-/// A time, since 1970, and what the monotonic clock showed then.
+/// A time, since 1970, and the value of the monotonic clock then.
 #[derive(Drop)]
 struct LastReading {
     time: Duration,
@@ -50,7 +50,8 @@ impl Model for LastReading {
 }
 
 impl LastReading {
-    /// Of the wall clock, or of 1970 if it can't be read; but not before a moment, if there is one.
+    /// The first reading: the time of the wall clock, or 1970 if it can't be read; but not before `last`, if there is
+    /// one.
     fn first<S: time::Clock>(system: &S, last: Option<Moment>) -> Self
         ensures { IfSome last (λ moment. moment ≤ result.time / 1_000_000) }
     {
@@ -58,14 +59,14 @@ impl LastReading {
             Some(moment) => Duration::from_millis(moment.get()),
             None => Duration::ZERO,
         };
-        // The wall clock comes first, so that the time is never ahead of it.
+        // The wall clock comes first, so the time is never ahead of it.
         let wall = system.since_1970().ok().and_then(within_moments);
         let time = wall.unwrap_or(Duration::ZERO).max(least);
         let since = system.monotonic().unwrap_or(Duration::ZERO);
         Self { time, since }
     }
 
-    /// The next reading, when the clocks show this. None if it is no moment.
+    /// The next reading, if the clocks have these values. None if it is not a moment.
     fn after(&self, wall: Duration, since: Duration) -> Option<Self>
         ensures { IfSome result (IsReadingAfter self.now (as_nanos wall) (as_nanos since)) }
     {
@@ -74,7 +75,7 @@ impl LastReading {
         Some(Self { time, since })
     }
 
-    /// The next reading. None if it is no moment, or the monotonic clock can't be read.
+    /// The next reading. None if it is not a moment, or the monotonic clock can't be read.
     fn next<S: time::Clock>(&self, system: &S) -> Option<Self>
         ensures { IfSome result (IsNextReading self.now) }
     {
@@ -102,9 +103,10 @@ fn within_moments(time: Duration) -> Option<Duration>
     Some(time)
 }
 
-/// The time of the server, in milliseconds since 1970: that of its start, and what the monotonic clock says has passed.
-/// While the wall clock is ahead of it, it gains one millisecond in ten on it, at most. So it never goes back, and it
-/// goes on whatever the wall clock is set to. If the clocks can't be read, the last moment is given again, at first 0.
+/// The time of the server, in milliseconds since 1970: the time of its start, and what has passed since by the
+/// monotonic clock. While the wall clock is ahead of it, it gains at most one millisecond in ten on it. So it never
+/// goes back, and it goes on whatever the wall clock is set to. If the clocks can't be read, the last moment is
+/// returned again, at the start 0.
 #[derive(Drop)]
 pub struct WallClock<S: time::Clock + Drop> {
     system: S,
@@ -117,7 +119,7 @@ impl<S: time::Clock + Drop> WallClock<S> {
         Self::not_before(system, None)
     }
 
-    /// The clock of this system, from now on; but it begins at the later of its time and this moment.
+    /// The clock of this system, from now on; it begins at the later of its time and this moment.
     pub fn not_before(system: S, last: Option<Moment>) -> Self
         ensures { IfSome last (λ moment. moment ≤ result.last.time / 1_000_000) }
     {
@@ -127,8 +129,8 @@ impl<S: time::Clock + Drop> WallClock<S> {
 }
 
 impl<S: time::Clock + Drop> Clock for WallClock<S> {
-    /// A moment comes that isn't before the last one, and is ahead of it by what the monotonic clock says, and a tenth
-    /// of that at most.
+    /// A moment comes that isn't before the last one, and is after it by the time of the monotonic clock, and at most a
+    /// tenth of that more.
     ghost gives = { λ old now new. IsNextReading old.last new.last
         × (old.last.time ≤ new.last.time) × (now ≡ new.last.time / 1_000_000) };
 

@@ -40,7 +40,7 @@ finds : (word : List ℕ) (keep : ℕ → Bool) → keep (length word) ≡ true 
 finds word keep h [] = refl
 finds word keep h (entry ∷ table) = finds_more word keep h entry table (finds word keep h table)
 
--- a word is looked for among the names whose length may be its own
+-- it is enough to look among the names that may have the word's length
 pub name_by_length : (word : List ℕ) (keep : ℕ → Bool) → keep (length word) ≡ true → name_of word ≡ name_among (filter (λ entry. keep (length entry.0)) names) word
 unfolding name_of
 name_by_length word keep h = ap (option_map (λ entry. entry.1)) (finds word keep h names)

@@ -28,7 +28,7 @@ use Rattle.xs_command.specs.KeyType.{key_type}
 use Rattle.xs_command.specs.Dbsize.{dbsize}
 use Rattle.xs_command.specs.Read.{command_of_words}
 
--- its line is what an example names
+-- the definitions that examples compute
 unfoldable pub example_functions : Type 0
 unfolding is_word word behind_sign integer natural id_of_word low high up_to name_of only leading_ids ids xgroup subcommand_of create destroy create_consumer delete_consumer create_option group_start streams each_from is_distinct read_from xreadgroup read_option reader xack xpending form idle_rows pending_rows optional xclaim claim_option xautoclaim auto_claim_option xadd add_option add_id field pairs fields xdel xlen xtrim trim_option max_len min_id xrange xrevrange scan_option ping quit del xinfo groups stream stream_form stream_in_full stream_counted consumers info.subcommand_of exists key_type dbsize command_of_words
 example_functions = Unit {0}

@@ -1,4 +1,4 @@
--- Words that differ, as a set finds them.
+-- Distinct words, as a set finds them.
 use Rattle.std.proofs.Common.{◌≡◌, ℕ, ◌<◌, Bool, true, false, ◌&&◌, ◌||◌, not, cond, List, [], ◌∷◌, ◌++◌, length, take}
 use Rattle.std.proofs.Common.{drop, refl, sym, ap, ◌∙◌, bytes_eq, arith}
 use Rattle.std.specs.List.{list_any}
@@ -35,7 +35,7 @@ both_false false false c d h k e = k e
 any_more : (p : List ℕ → Bool) (words more : List (List ℕ)) → list_any p words ≡ true → list_any p (words ++ more) ≡ true
 any_more p words more h = list_any-append p words more ∙ ap (λ b. b || list_any p more) h
 
--- a word twice stays there twice
+-- a word that is repeated stays repeated
 stays : (words more : List (List ℕ)) → is_distinct words ≡ false → is_distinct (words ++ more) ≡ false
 unfolding is_distinct
 stays [] more h = absurd cc
@@ -52,14 +52,14 @@ found_again words n front word e h = sym (twice words n (ap is_distinct e ∙ is
     ends_false true b h = rw h refl
     ends_false false b h = refl
 
--- one more key, which is not
+-- one more key, which isn't among those before it
 pub is_new : (front : List (List ℕ)) (word : List ℕ) → is_distinct front ≡ true → list_any (bytes_eq word) front ≡ false → is_distinct (front ++ word ∷ []) ≡ true
 is_new front word h k = is_distinct-push front word ∙ cc_both (is_distinct front) (list_any (bytes_eq word) front) h k
   where
     cc_both : (a b : Bool) → a ≡ true → b ≡ false → (a && not b) ≡ true
     cc_both a b h k = rw (h, k) refl
 
--- what a set with one more key has
+-- the content of a set with one more key
 pub has_more : (front : List (List ℕ)) (word q : List ℕ) (equal before : Bool) → equal ≡ bytes_eq word q → before ≡ list_any (bytes_eq q) front → cond equal true before ≡ list_any (bytes_eq q) (front ++ word ∷ [])
 has_more front word q equal before e h =
     or_is equal before ∙ ap (λ b. b || (equal || false)) h ∙ ap (λ b. list_any (bytes_eq q) front || (b || false)) (e ∙ symmetric word q) ∙ sym (list_any-append (bytes_eq q) front (word ∷ []))
@@ -76,7 +76,7 @@ not_is true false e = refl
 not_is false true e = refl
 not_is false false e = absurd cc
 
--- what an insertion says of the set before it
+-- what an insertion returns about the set before it
 pub was_there : (added there : Bool) → added ≡ not there → added ≡ false → there ≡ true
 was_there added there e h = not_is added there e ∙ ap not h
 

@@ -29,7 +29,7 @@ counted_formed : (key : List ℕ) → Always IsWellFormed (stream_counted key)
 unfolding stream_counted
 counted_formed key = after_any IsWellFormed integer _ (λ n. only_is IsWellFormed (command.Inspect (inspection.StreamInFull key (full_limit n))) Syntax tt)
 
--- behind one word the rest is read, behind another nothing
+-- after one word the rest is read, after another nothing
 if_word : (b : Bool) (read : Reading Command) (words : List (List ℕ)) (y : Command) → Always IsWellFormed read → cond b (read words) (Err Syntax) ≡ Ok y → IsWellFormed y
 if_word true read words y formed e = formed words y e
 if_word false read words y formed e = absurd cc

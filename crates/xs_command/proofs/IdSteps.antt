@@ -13,7 +13,7 @@ use Rattle.xs_command.specs.Syntax.{id_before, leading_ids, ids}
 abbrev pub with_front : List Id → List Id × List (List ℕ) → List Id × List (List ℕ)
 with_front front found = (front ++ found.0, found.1)
 
--- what the first word says of the leading ids
+-- what the first word means for the leading ids
 pub record Step (words : List (List ℕ)) (read : Result (Id × List (List ℕ)) Fault) : Type 0 where
   pub reads : (first : Id) (behind : List (List ℕ)) → read ≡ Ok (first, behind) → (leading_ids words ≡ id_before (Some first) words (leading_ids behind)) × (length words ≡ length behind + 1)
   pub stops : (fault : Fault) → read ≡ Err fault → leading_ids words ≡ ([], words)
@@ -39,7 +39,7 @@ pub goes_on : (front : List Id) (words : List (List ℕ)) (first : Id) (behind :
 goes_on front words first behind h =
     rw ((step words).reads first behind h).0 (ap (λ (l : List Id). (l, (leading_ids behind).1)) (append_assoc front (first ∷ []) (leading_ids behind).0))
 
--- a word that is no id
+-- a word that isn't an id
 pub stops_at : (front : List Id) (words : List (List ℕ)) (fault : Fault) → id_of_word words ≡ Err fault → with_front front (leading_ids words) ≡ (front, words)
 stops_at front words fault h = rw ((step words).stops fault h) (ap (λ (l : List Id). (l, words)) (append-nil front))
 
@@ -52,7 +52,7 @@ ends front (w ∷ words) h = absurd (omega arith)
 pub fewer : (words : List (List ℕ)) (first : Id) (behind : List (List ℕ)) → id_of_word words ≡ Ok (first, behind) → length words ≡ length behind + 1
 fewer words first behind h = ((step words).reads first behind h).1
 
--- an id, and behind it a word that is none, or no word
+-- an id, and after it a word that isn't one, or no word
 pub single : (words : List (List ℕ)) (first : Id) (behind : List (List ℕ)) (fault : Fault) → id_of_word words ≡ Ok (first, behind) → id_of_word behind ≡ Err fault → ids words ≡ Ok (first ∷ [], behind)
 unfolding ids
 single words first behind fault h none =

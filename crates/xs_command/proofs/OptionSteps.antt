@@ -35,13 +35,13 @@ pub is_done : {S : Type 0} (option : OptionOf S) (n i : ℕ) (s : S) (words : Li
 unfolding up_to
 is_done option n i s words le = let k : n - i ≡ 0 = omega arith in rw k refl
 
--- the option was read, and more may come
+-- the option was read, and more can follow
 pub goes_on : {S : Type 0} (option : OptionOf S) (n i : ℕ) (s t : S) (words left : List (List ℕ)) (behind : Option (List (List ℕ))) (x : List ℕ × List (List ℕ)) (total : Result (S × List (List ℕ)) Fault) → i < n → word words ≡ Ok x → option s x.0 x.1 ≡ Ok (t, behind) → behind ≡ Some left → up_to (n - i) option s words ≡ total → up_to (n - (i + 1)) option t left ≡ total
 goes_on option n i s t words left behind x total lt e o b so_far =
     let turned = one_turn option n i s words x lt e ∙ ap (λ r. option_after r words (λ t left. up_to (n - (i + 1)) option t left)) (o ∙ ap (λ b. Ok (t, b)) b) in
     sym turned ∙ so_far
 
--- the word was no option
+-- the word was not an option
 pub stops : {S : Type 0} (option : OptionOf S) (n i : ℕ) (s t : S) (words : List (List ℕ)) (behind : Option (List (List ℕ))) (x : List ℕ × List (List ℕ)) (total : Result (S × List (List ℕ)) Fault) → i < n → word words ≡ Ok x → option s x.0 x.1 ≡ Ok (t, behind) → behind ≡ None → up_to (n - i) option s words ≡ total → total ≡ Ok (t, words)
 stops option n i s t words behind x total lt e o b so_far =
     let turned = one_turn option n i s words x lt e ∙ ap (λ r. option_after r words (λ t left. up_to (n - (i + 1)) option t left)) (o ∙ ap (λ b. Ok (t, b)) b) in

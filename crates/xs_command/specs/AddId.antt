@@ -10,7 +10,7 @@ use Rattle.xs_resp.specs.declared.fault.Fault.{Fault}
 use Rattle.xs_resp.specs.declared.fault.Fault.TheVariants.{BadId, ZeroId}
 use Rattle.xs_command.specs.Words.{Part, ◌>>=◌, word}
 
--- `ms-*`, by its number
+-- `ms-*`, by the number of milliseconds
 abbrev pub next_in : Option ℕ → Result AddId Fault
 next_in None = Err BadId
 next_in (Some ms) = Ok (add.AutoSeq ms)

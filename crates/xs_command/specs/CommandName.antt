@@ -18,7 +18,7 @@ names =
     ∷ (codes "xautoclaim", Xautoclaim) ∷ (codes "del", Del) ∷ (codes "xinfo", Xinfo)
     ∷ (codes "exists", Exists) ∷ (codes "type", KeyType) ∷ (codes "dbsize", Dbsize) ∷ []
 
--- the one of these names that a word is, in upper or lower case
+-- the name among these that a word is, in upper or lower case
 abbrev pub name_among : List (List ℕ × CommandName) → List ℕ → Option CommandName
 name_among table word = option_map (λ entry. entry.1) (find (λ entry. is_word entry.0 word) table)
 
@@ -30,7 +30,8 @@ name_of word = name_among names word
 abbrev pub has_rare_length : ℕ → Bool
 has_rare_length n = not (n == 4 || n == 6 || n == 10)
 
--- how many words a command has, its name included: at least the first number, at most the second where there is one
+-- the number of words of a command, its name included: at least the first number, and at most the second, if there is
+-- one
 abbrev pub word_counts : CommandName → ℕ × Option ℕ
 word_counts Ping = (1, Some 2)
 word_counts Quit = (1, None)
@@ -52,11 +53,11 @@ word_counts Exists = (2, None)
 word_counts KeyType = (2, Some 2)
 word_counts Dbsize = (1, Some 1)
 
--- at most so many
+-- at most this many
 abbrev pub is_at_most : Option ℕ → ℕ → Bool
 is_at_most None count = true
 is_at_most (Some most) count = nat_le count most
 
--- so many words are neither too few nor too many
+-- the number of words is within the bounds
 abbrev pub is_within_bounds : ℕ × Option ℕ → ℕ → Bool
 is_within_bounds bounds count = nat_le bounds.0 count && is_at_most bounds.1 count

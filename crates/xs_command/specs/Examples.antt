@@ -1,4 +1,4 @@
--- Lines of words and what they say, as the Redis documentation and this server's rules tell it.
+-- Lines of words and the commands that they spell, by the Redis documentation and this server's rules.
 use Rattle.std.specs.Prelude.{◌≡◌, ℕ, ◌==◌, true, false, List, [], ◌∷◌, ◌++◌, codes, Some, None, Ok, Err, if◌then◌else◌}
 use Rattle.xs_stream.specs.declared.add.AddId.TheVariants as add
 use Rattle.xs_stream.specs.declared.trim.Trim.TheVariants as trim
@@ -19,7 +19,7 @@ words_behind word [] = word ∷ []
 words_behind word (byte ∷ text) =
     if byte == 32 then word ∷ words_behind [] text else words_behind (word ++ byte ∷ []) text
 
--- the words that spaces divide
+-- the words between the spaces
 abbrev pub line : List ℕ → List (List ℕ)
 line text = words_behind [] text
 

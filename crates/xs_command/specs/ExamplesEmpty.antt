@@ -1,5 +1,5 @@
--- Lines with empty words, where two spaces stand side by side or one at the end, as a real Redis 7.0 reads such words:
--- keys, groups, consumers, messages and fields may be empty; numbers, ids, names and options may not.
+-- Lines with empty words, which are between two spaces or after a last one, as a real Redis 7.0 reads such words: keys,
+-- groups, consumers, messages and fields may be empty; numbers, ids, names and options may not.
 use Rattle.std.specs.Prelude.{true, false, [], ◌∷◌, codes, Some, None}
 use Rattle.xs_stream.specs.declared.add.AddId.TheVariants.{Auto}
 use Rattle.xs_stream.specs.Id.{zero_id, greatest_id}

@@ -1,5 +1,5 @@
--- Commands that words can't give, by examples: each list of ids, fields and keys has one or more, a read names no key
--- twice, and no entry is added at 0-0 (the pages of the commands, "Syntax").
+-- Commands that words can't give, by examples: each list of ids, fields and keys has at least one element, a read names
+-- no key twice, and no entry is added at 0-0 (the pages of the commands, "Syntax").
 use Rattle.std.specs.Prelude.{true, false, List, [], ◌∷◌, codes, None}
 use Rattle.xs_stream.specs.declared.add.AddId.{AddId}
 use Rattle.xs_stream.specs.declared.add.AddId.TheVariants.{Auto, Exact}

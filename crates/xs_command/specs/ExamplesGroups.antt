@@ -1,5 +1,6 @@
--- Commands of groups: lines of words and what they say, as the pages of XGROUP, XREADGROUP, XACK, XPENDING, XCLAIM and
--- XAUTOCLAIM tell it and a real Redis 7.0 answers. Which fault is told first is this server's own.
+-- Commands of groups: lines of words and the commands that they spell, by the pages of XGROUP, XREADGROUP, XACK,
+-- XPENDING, XCLAIM and XAUTOCLAIM and the replies of a real Redis 7.0. Which fault is reported first is this server's
+-- own.
 use Rattle.std.specs.Prelude.{ℕ, Bool, true, false, List, [], ◌∷◌, map, codes, Option, Some, None}
 use Rattle.xs_stream.specs.declared.id.Id.{Id}
 use Rattle.xs_stream.specs.Id.{zero_id, greatest_id, greatest_number}

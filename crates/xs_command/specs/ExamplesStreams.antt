@@ -1,5 +1,5 @@
--- Commands of streams: lines of words and what they say, as the pages of XADD, XDEL, XTRIM, XRANGE, XREVRANGE and DEL
--- tell it and a real Redis 7.0 answers. Which fault is told first is this server's own.
+-- Commands of streams: lines of words and the commands that they spell, by the pages of XADD, XDEL, XTRIM, XRANGE,
+-- XREVRANGE and DEL and the replies of a real Redis 7.0. Which fault is reported first is this server's own.
 use Rattle.std.specs.Prelude.{ℕ, true, false, List, [], ◌∷◌, codes, Option, Some, None}
 use Rattle.xs_stream.specs.declared.id.Id.{Id}
 use Rattle.xs_stream.specs.declared.field.Field.{Field}
@@ -18,13 +18,13 @@ use Rattle.xs_command.specs.Examples.{Spells, HasFault}
 abbrev pub field : List ℕ → List ℕ → Field
 field name value = record { name = name; value = value }
 
--- an addition that may make its key, of the field f with the value v
+-- an addition that creates a missing key, of the field f with the value v
 abbrev pub adds : Option Trim → AddId → Command
 adds trim id =
     let fields : List Field = field (codes "f") (codes "v") ∷ [] in
     command.Add (record { key = codes "k"; make = true; trim = trim; id = id; fields = fields })
 
--- the same, to a stream that is there
+-- the same, to a stream that exists
 abbrev pub adds_to_a_stream : Option Trim → Command
 adds_to_a_stream trim =
     let fields : List Field = field (codes "f") (codes "v") ∷ [] in

@@ -1,5 +1,5 @@
--- Numbers, ids and the number of words of each command, as the pages of the commands tell it and a real Redis 7.0
--- answers.
+-- Numbers, ids and the number of words of each command, by the pages of the commands and the replies of a real Redis
+-- 7.0.
 use Rattle.std.specs.Prelude.{◌≡◌, ℕ, [], codes, Some, None, Ok, Err}
 use Rattle.xs_stream.specs.declared.add.AddId.TheVariants.{Auto, AutoSeq, Exact}
 use Rattle.xs_stream.specs.Id.{zero_id}
@@ -83,7 +83,7 @@ pub record Counts : Type 0 where
   pub xclaim : HasFault (codes "XCLAIM k g c 0") Arity
   pub xautoclaim : HasFault (codes "XAUTOCLAIM k g c 0") Arity
 
--- what a call that reads may answer: what is read, the fault that is read, or want of memory (own)
+-- what a call that reads may return: what is read, the fault that is read, or out of memory (own)
 pub record Given : Type 0 where
   pub what_is_read : Gives {A = ℕ} (Ok 5) (Ok 5)
   pub nothing_else : Gives {A = ℕ} (Ok 5) (Ok 6) → ⊥

@@ -17,6 +17,6 @@ pairs [] = []
 pairs (name ∷ []) = []
 pairs (name ∷ text ∷ words) = record { name = name; value = text } ∷ pairs words
 
--- all the words, one pair or more; their number is a matter of arity
+-- all the words, one pair or more; any other number of words is the fault Arity
 unfoldable pub fields : Reading (List Field)
 fields words = if nat_lt 0 (length words) && length words % 2 == 0 then Ok (pairs words) else Err Arity

@@ -5,7 +5,7 @@ use Rattle.xs_bytes.specs.Number.{natural_of}
 use Rattle.xs_command.specs.declared.integer.Integer.{Integer}
 use Rattle.xs_command.specs.declared.integer.Integer.TheVariants.{Negative, Natural}
 
--- a number that isn't below 0
+-- a number that isn't negative
 abbrev pub positive_of : ℕ → Option Integer
 positive_of n = if nat_lt n (2 ^ 63) then Some (Natural n) else None
 

@@ -3,12 +3,12 @@ use Rattle.std.specs.Prelude.{ℕ, zero, suc, List, [], ◌∷◌, length, Optio
 use Rattle.xs_resp.specs.declared.fault.Fault.{Fault}
 use Rattle.xs_command.specs.Words.{Reading, Part}
 
--- what a name says as an option, after the options before it: the new state and the words after the option; or None in
--- the place of those words, if the name is no option
+-- a name as an option, after the options before it: the new state and the words after the option, or None in the place
+-- of those words if the name isn't an option
 abbrev pub OptionOf : Type 0 → Type 0
 OptionOf S = S → List ℕ → Reading (S × Option (List (List ℕ)))
 
--- an option that was read whole
+-- an option that was read completely
 abbrev pub with_words_behind :
     {S : Type 0} → Result (S × List (List ℕ)) Fault → Result (S × Option (List (List ℕ))) Fault
 with_words_behind (Ok read) = Ok (read.0, Some read.1)
@@ -18,7 +18,7 @@ with_words_behind (Err fault) = Err fault
 abbrev pub option_with : {S : Type 0} → Part S → Reading (S × Option (List (List ℕ)))
 option_with part words = with_words_behind (part words)
 
--- how options go on after a name: after an option, or at the words if it was none
+-- how options go on after a name: after an option, or at the words if it wasn't one
 abbrev pub option_after :
     {S : Type 0} → Result (S × Option (List (List ℕ))) Fault → List (List ℕ) → (S → Part S)
     → Result (S × List (List ℕ)) Fault

@@ -11,6 +11,6 @@ unfoldable pub ping : Reading Command
 ping [] = Ok (command.Ping None)
 ping (message ∷ words) = only (command.Ping (Some message)) Syntax words
 
--- QUIT; further words mean nothing
+-- QUIT; further words are ignored
 unfoldable pub quit : Reading Command
 quit words = Ok command.Quit

@@ -1,4 +1,4 @@
--- What words say: a command, or the first fault from left to right.
+-- The reading of words: a command, or the first fault from left to right.
 use Rattle.std.specs.Prelude.{◌+◌, length, Option, Some, None, Err, if◌then◌else◌}
 use Rattle.xs_resp.specs.declared.fault.Fault.TheVariants.{UnknownCommand, Arity}
 use Rattle.xs_command.specs.declared.command.Command.{Command}
@@ -27,7 +27,7 @@ use Rattle.xs_command.specs.Exists.{exists}
 use Rattle.xs_command.specs.KeyType.{key_type}
 use Rattle.xs_command.specs.Dbsize.{dbsize}
 
--- the syntax behind each name
+-- the syntax after each name
 abbrev pub syntax : CommandName → Reading Command
 syntax Ping = ping
 syntax Quit = quit
@@ -49,13 +49,13 @@ syntax Exists = exists
 syntax KeyType = key_type
 syntax Dbsize = dbsize
 
--- the words behind a name; their number comes first
+-- the words after a name; their number is checked first
 abbrev pub command_by_name : Option CommandName → Reading Command
 command_by_name None words = Err UnknownCommand
 command_by_name (Some name) words =
     if is_within_bounds (word_counts name) (length words + 1) then syntax name words else Err Arity
 
--- a name, and what stands behind it
+-- a name, and the words after it
 unfoldable pub command_of_words : Reading Command
 command_of_words = do
   first ← word

@@ -1,4 +1,4 @@
--- The streams of XREADGROUP: keys, and for each from where it is read.
+-- The streams of XREADGROUP: keys, and the start of the read of each.
 use Rattle.std.specs.Prelude.{ℕ, ◌/◌, ◌%◌, ◌&&◌, ◌==◌, not, Bool, true, List, [], ◌∷◌, length, take, drop, nat_lt}
 use Rattle.std.specs.Prelude.{bytes_eq, codes, Option, Some, Result, Ok, Err, if◌then◌else◌}
 use Rattle.std.specs.List.{list_any}
@@ -15,13 +15,13 @@ use Rattle.xs_command.specs.Words.{Reading, Part, ◌>>=◌, or_fault, word}
 abbrev pub from_of : List ℕ → Option ReadFrom
 from_of text = if bytes_eq text (codes ">") then Some New else option_map After (parse_id text 0)
 
--- the next word, from where a stream is read
+-- the next word, the start of the read of a stream
 unfoldable pub read_from : Part ReadFrom
 read_from = do
   w ← word
   or_fault (from_of w) BadId
 
--- no key stands there a second time
+-- no key is repeated
 unfoldable pub is_distinct : List (List ℕ) → Bool
 is_distinct [] = true
 is_distinct (key ∷ keys) = not (list_any (bytes_eq key) keys) && is_distinct keys
@@ -31,7 +31,7 @@ abbrev pub before : ReadOne → Result (List ReadOne) Fault → Result (List Rea
 before first (Ok reads) = Ok (first ∷ reads)
 before first (Err fault) = Err fault
 
--- the read of a key from where it says, before those that follow
+-- the read of a key with its start, before those that follow
 abbrev pub read_before :
     List ℕ → Result (ReadFrom × List (List ℕ)) Fault → Reading (List ReadOne) → Result (List ReadOne) Fault
 read_before key (Err fault) more = Err fault
@@ -42,7 +42,7 @@ unfoldable pub each_from : List (List ℕ) → Reading (List ReadOne)
 each_from [] froms = Ok []
 each_from (key ∷ keys) froms = read_before key (read_from froms) (each_from keys)
 
--- keys that differ, and their starts
+-- distinct keys, and their starts
 abbrev pub keys_and_starts : List (List ℕ) → Reading (List ReadOne)
 keys_and_starts keys froms = if is_distinct keys then each_from keys froms else Err Unsupported
 

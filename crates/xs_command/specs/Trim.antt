@@ -7,15 +7,15 @@ use Rattle.xs_resp.specs.declared.fault.Fault.TheVariants.{Syntax, Unsupported}
 use Rattle.xs_command.specs.Words.{Part, ◌>>=◌, value, is_word, natural, id_of_word, behind_sign}
 use Rattle.xs_command.specs.Options.{OptionOf}
 
--- behind MAXLEN: [=|~] count
+-- after MAXLEN: [=|~] count
 unfoldable pub max_len : Part Trim
 max_len words = (natural >>= λ count. value (trim.MaxLen count)) (behind_sign words)
 
--- behind MINID: [=|~] id
+-- after MINID: [=|~] id
 unfoldable pub min_id : Part Trim
 min_id words = (id_of_word >>= λ low. value (trim.MinId low)) (behind_sign words)
 
--- a trim that was read, where none stands before it
+-- a trim that was read, if there is none before it
 abbrev pub first_trim :
     Option Trim → Result (Trim × List (List ℕ)) Fault → Result (Option Trim × Option (List (List ℕ))) Fault
 first_trim (Some earlier) read = Err Syntax

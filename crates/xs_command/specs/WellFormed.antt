@@ -1,4 +1,4 @@
--- What holds of each command that words give.
+-- What is true of each command that words give.
 use Rattle.std.specs.Prelude.{◌≢◌, ℕ, List, [], map, bytes_eq}
 use Rattle.std.specs.List.{IsDistinct}
 use Rattle.xs_stream.specs.declared.add.AddId.{AddId}

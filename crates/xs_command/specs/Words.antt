@@ -1,4 +1,4 @@
--- Reading words from left to right, with the first fault that is met.
+-- Reading words from left to right, with the first fault.
 use Rattle.std.specs.Prelude.{◌≡◌, ℕ, Bool, ◌||◌, List, [], ◌∷◌, codes, if◌then◌else◌, Option, Some, None, Result, Ok}
 use Rattle.std.specs.Prelude.{Err}
 use Rattle.std.specs.Str.{str_eq_ignore_ascii_case}
@@ -13,11 +13,11 @@ use Rattle.xs_command.specs.declared.integer.Integer.{Integer}
 use Rattle.xs_command.specs.declared.integer.Integer.TheVariants.{Negative, Natural}
 use Rattle.xs_command.specs.Integer.{integer_of}
 
--- what words say: a value or a fault
+-- the meaning of all the words: a value or a fault
 abbrev pub Reading : Type 0 → Type 0
 Reading A = List (List ℕ) → Result A Fault
 
--- what the first of the words say: a value and the words behind it, or a fault
+-- the meaning of the first words: a value and the words after it, or a fault
 abbrev pub Part : Type 0 → Type 0
 Part A = Reading (A × List (List ℕ))
 
@@ -30,21 +30,21 @@ infixl 10 ◌>>=◌
 abbrev pub ◌>>=◌ : {A B : Type 0} → Part A → (A → Reading B) → Reading B
 (part >>= next) words = and_then (part words) next
 
--- this value, and no word is read
+-- this value, without reading a word
 abbrev pub value : {A : Type 0} → A → Part A
 value x words = Ok (x, words)
 
--- what a word means, or the fault of a word that means nothing
+-- the meaning of a word, or the fault of a word without one
 abbrev pub or_fault : {A : Type 0} → Option A → Fault → Part A
 or_fault (Some x) fault words = Ok (x, words)
 or_fault None fault words = Err fault
 
--- a refusal says nothing where memory ran out, and else names the fault that is read
+-- a refusal for memory is always allowed; any other carries the fault that is read
 abbrev pub Fails : {A : Type 0} → Refusal → Result A Fault → Type 0
 Fails Memory read = Unit {0}
 Fails (Said fault) read = read ≡ Err fault
 
--- a function gives what is read, unless memory runs out
+-- a function returns what is read, unless memory runs out
 abbrev pub Gives : {A : Type 0} → Result A Refusal → Result A Fault → Type 0
 Gives (Ok x) read = read ≡ Ok x
 Gives (Err refusal) read = Fails refusal read
@@ -58,7 +58,7 @@ unfoldable pub word : Part (List ℕ)
 word [] = Err Syntax
 word (w ∷ words) = Ok (w, words)
 
--- the words behind `=` or `~`, where they begin with one
+-- the words after `=` or `~`, if they begin with one
 unfoldable pub behind_sign : List (List ℕ) → List (List ℕ)
 behind_sign [] = []
 behind_sign (w ∷ words) = if is_word (codes "=") w || is_word (codes "~") w then words else w ∷ words

@@ -13,11 +13,11 @@ use Rattle.xs_command.specs.Trim.{trim_option}
 use Rattle.xs_command.specs.AddId.{add_id}
 use Rattle.xs_command.specs.Fields.{fields}
 
--- a missing key is made, and nothing is trimmed
+-- a missing key is created, and nothing is trimmed
 abbrev pub no_add_options : AddOptions
 no_add_options = record { make = true; trim = None }
 
--- what a trim's option leaves
+-- the options after a trim was read
 abbrev pub with_trim :
     AddOptions → Result (Option Trim × Option (List (List ℕ))) Fault
     → Result (AddOptions × Option (List (List ℕ))) Fault

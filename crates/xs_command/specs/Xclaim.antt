@@ -17,7 +17,7 @@ use Rattle.xs_command.specs.Syntax.{only, ids}
 abbrev pub plain_rule : ℕ → ClaimRule
 plain_rule min_idle = record { min_idle = min_idle; when = time.Now; retry = None; just_id = false }
 
--- a moment that was written; one below 0 is that of the claim
+-- a moment that was given; a negative one is that of the claim
 abbrev pub claim_time_of : Integer → ClaimTime
 claim_time_of Negative = time.Now
 claim_time_of (Natural millis) = time.At millis

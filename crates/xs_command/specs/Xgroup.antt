@@ -16,7 +16,7 @@ use Rattle.xs_command.specs.Options.{OptionOf, many}
 use Rattle.xs_command.specs.CommandName.{is_within_bounds}
 use Rattle.xs_command.specs.Syntax.{only}
 
--- the id behind which a new group starts to read; `$` is the top of the stream, and a missing sequence is 0
+-- the id after which a new group starts to read; `$` is the top of the stream, and a missing sequence is 0
 abbrev pub start_in_word : List ℕ → Option GroupStart
 start_in_word text = if bytes_eq text (codes "$") then Some Top else option_map At (parse_id text 0)
 
@@ -74,7 +74,7 @@ subcommands =
 unfoldable pub subcommand_of : List ℕ → Option Subcommand
 subcommand_of text = option_map (λ entry. entry.1) (find (λ entry. is_word entry.0 text) subcommands)
 
--- how many words each has, XGROUP and the subcommand included
+-- the number of words of each, XGROUP and the subcommand included
 abbrev pub subcommand_word_counts : Subcommand → ℕ × Option ℕ
 subcommand_word_counts Create = (5, None)
 subcommand_word_counts Destroy = (4, Some 4)
@@ -82,7 +82,7 @@ subcommand_word_counts CreateConsumer = (5, Some 5)
 subcommand_word_counts DelConsumer = (5, Some 5)
 subcommand_word_counts SetId = (2, None)
 
--- the syntax behind each subcommand; SETID isn't supported
+-- the syntax after each subcommand; SETID isn't supported
 abbrev pub group_syntax : Subcommand → Reading Command
 group_syntax Create = create
 group_syntax Destroy = destroy
@@ -90,7 +90,7 @@ group_syntax CreateConsumer = create_consumer
 group_syntax DelConsumer = delete_consumer
 group_syntax SetId = λ words. Err Unsupported
 
--- the words behind a subcommand; their number comes first
+-- the words after a subcommand; their number is checked first
 abbrev pub group_named : Option Subcommand → Reading Command
 group_named None words = Err UnknownCommand
 group_named (Some sub) words =

@@ -20,23 +20,23 @@ groups = do
   key ← word
   only (command.Inspect (inspection.Groups key)) Syntax
 
--- at most so many of each list: all if it is 0, and ten if it is below 0
+-- at most this many of each list: all if it is 0, and ten if it is negative
 abbrev pub full_limit : Integer → Option ℕ
 full_limit Negative = Some 10
 full_limit (Natural n) = if n == 0 then None else Some n
 
--- behind COUNT
+-- after COUNT
 unfoldable pub stream_counted : List ℕ → Reading Command
 stream_counted key = do
   n ← integer
   only (command.Inspect (inspection.StreamInFull key (full_limit n))) Syntax
 
--- behind FULL: nothing, which is ten of each list, or COUNT n
+-- after FULL: nothing, which means ten of each list, or COUNT n
 unfoldable pub stream_in_full : List ℕ → Reading Command
 stream_in_full key [] = Ok (command.Inspect (inspection.StreamInFull key (Some 10)))
 stream_in_full key (w ∷ words) = if is_word (codes "count") w then stream_counted key words else Err Syntax
 
--- behind the key: nothing, or FULL
+-- after the key: nothing, or FULL
 unfoldable pub stream_form : List ℕ → Reading Command
 stream_form key [] = Ok (command.Inspect (inspection.Stream key))
 stream_form key (w ∷ words) = if is_word (codes "full") w then stream_in_full key words else Err Syntax
@@ -62,19 +62,19 @@ subcommands = (codes "groups", Groups) ∷ (codes "stream", Stream) ∷ (codes "
 unfoldable pub subcommand_of : List ℕ → Option Subcommand
 subcommand_of text = option_map (λ entry. entry.1) (find (λ entry. is_word entry.0 text) subcommands)
 
--- how many words each has, XINFO and the subcommand included
+-- the number of words of each, XINFO and the subcommand included
 abbrev pub subcommand_word_counts : Subcommand → ℕ × Option ℕ
 subcommand_word_counts Groups = (3, Some 3)
 subcommand_word_counts Stream = (3, None)
 subcommand_word_counts Consumers = (4, Some 4)
 
--- the syntax behind each subcommand
+-- the syntax after each subcommand
 abbrev pub info_syntax : Subcommand → Reading Command
 info_syntax Groups = groups
 info_syntax Stream = stream
 info_syntax Consumers = consumers
 
--- the words behind a subcommand; their number comes first
+-- the words after a subcommand; their number is checked first
 abbrev pub info_named : Option Subcommand → Reading Command
 info_named None words = Err UnknownCommand
 info_named (Some sub) words =

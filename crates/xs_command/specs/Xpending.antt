@@ -38,13 +38,13 @@ idle_rows key group = do
 abbrev pub with_word_count : ℕ → ℕ → Reading Command → Reading Command
 with_word_count n m rows words = if length words == n || length words == m then rows words else Err Syntax
 
--- the long form, which begins with this word; that there are too many or too few words is found first
+-- the long form, which begins with this word; the number of words is checked first
 abbrev pub long_form : List ℕ → List ℕ → List ℕ → Reading Command
 long_form key group first words =
     if is_word (codes "idle") first then with_word_count 4 5 (idle_rows key group) words
     else with_word_count 3 4 (pending_rows key group 0) (first ∷ words)
 
--- no more words are the short form, others the long form
+-- the short form if there are no more words, else the long form
 unfoldable pub form : List ℕ → List ℕ → Reading Command
 form key group [] = Ok (command.Pending key group)
 form key group (first ∷ words) = long_form key group first words

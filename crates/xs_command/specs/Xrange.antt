@@ -14,7 +14,7 @@ use Rattle.xs_command.specs.Syntax.{only}
 abbrev pub no_limit : ScanOptions
 no_limit = record { limit = None }
 
--- { COUNT n }; a number below 0 counts as 0
+-- { COUNT n }; a negative number counts as 0
 unfoldable pub scan_option : OptionOf ScanOptions
 scan_option options name words =
     if is_word (codes "count") name

@@ -13,7 +13,7 @@ use Rattle.xs_command.specs.Words.{Reading, Part, ◌>>=◌, value, is_word, wor
 use Rattle.xs_command.specs.Options.{OptionOf, many, option_with}
 use Rattle.xs_command.specs.Streams.{streams}
 
--- a number of 0 or below sets no limit
+-- 0 or a negative number sets no limit
 abbrev pub limit_of : Integer → Option ℕ
 limit_of Negative = None
 limit_of (Natural n) = if n == 0 then None else Some n
@@ -65,7 +65,7 @@ read_group who options (Ok reads) =
     }))
 read_group who options (Err fault) = Err fault
 
--- behind STREAMS; a group has to be named before
+-- after STREAMS; a group has to be named before
 abbrev pub behind_streams : ReadOptions → Option Reader → Reading Command
 behind_streams options None words = Err Syntax
 behind_streams options (Some who) words = read_group who options (streams words)

@@ -9,7 +9,7 @@ use Rattle.xs_command.specs.Options.{many}
 use Rattle.xs_command.specs.Syntax.{only}
 use Rattle.xs_command.specs.Trim.{trim_option}
 
--- the trim that has to stand there
+-- the trim, which has to be there
 abbrev pub trim_to : List ℕ → Option Trim → Reading Command
 trim_to key None words = Err Syntax
 trim_to key (Some trim) words = only (command.TrimTo key trim) Syntax words

@@ -1,4 +1,4 @@
-//! The commands of the server. What each does is told on its page of the Redis documentation.
+//! The commands of the server. Each is described on its page of the Redis documentation.
 
 use crate::operands::Operands;
 use xs_bytes::{Bytes, List};
@@ -76,12 +76,12 @@ pub enum Command {
     Inspect(Inspection),
 }
 
-/// What is asked of the content, which stays as it is.
+/// A question about the content, which doesn't change it.
 #[derive(Debug, Drop)]
 pub enum Inspection {
     /// XINFO STREAM.
     Stream { key: Bytes },
-    /// XINFO STREAM with FULL: of each list at most so many.
+    /// XINFO STREAM with FULL: at most `limit` of each list.
     StreamInFull { key: Bytes, limit: Option<u64> },
     /// XINFO GROUPS.
     Groups { key: Bytes },
@@ -95,35 +95,35 @@ pub enum Inspection {
     KeyCount,
 }
 
-/// What XADD asks for.
+/// The arguments of XADD.
 #[derive(Debug, Drop)]
 pub struct AddCommand {
     /// The key of the stream.
     pub key: Bytes,
-    /// A missing key is made. It is false with NOMKSTREAM.
+    /// Whether a missing key is created. It is false with NOMKSTREAM.
     pub make: bool,
-    /// The stream is trimmed to it once the entry is added.
+    /// If given, the stream is trimmed to it after the entry is added.
     pub trim: Option<Trim>,
-    /// The id that is asked for, never `0-0`.
+    /// The id of the entry, never `0-0`.
     pub id: AddId,
     /// One field or more.
     pub fields: List<Field>,
 }
 
-/// What XRANGE and XREVRANGE ask for.
+/// The arguments of XRANGE and XREVRANGE.
 #[derive(Debug, Drop)]
 pub struct RangeCommand {
     /// The key of the stream.
     pub key: Bytes,
-    /// The ids that are looked at.
+    /// The ids of the entries.
     pub range: Range,
-    /// At most so many entries.
+    /// The most entries.
     pub limit: Option<u64>,
-    /// The greatest id comes first.
+    /// Whether the greatest id comes first.
     pub reversed: bool,
 }
 
-/// Where a new group starts to read: behind this id.
+/// The id after which a new group starts to read.
 #[derive(Clone, Copy, Debug, PartialEq, Eq)]
 pub enum GroupStart {
     /// `$`: the top of the stream.
@@ -132,7 +132,7 @@ pub enum GroupStart {
     At(Id),
 }
 
-/// What XGROUP CREATE asks for.
+/// The arguments of XGROUP CREATE.
 #[derive(Debug, Drop)]
 pub struct GroupCreateCommand {
     /// The key of the stream.
@@ -141,11 +141,11 @@ pub struct GroupCreateCommand {
     pub group: Bytes,
     /// Where the group starts to read.
     pub start: GroupStart,
-    /// A missing key is made, as MKSTREAM asks.
+    /// Whether a missing key is created, as with MKSTREAM.
     pub make: bool,
 }
 
-/// From where a stream is read.
+/// The start of the read of a stream.
 #[derive(Clone, Copy, Debug, PartialEq, Eq)]
 pub enum ReadFrom {
     /// `>`: the entries that the group hasn't delivered yet.
@@ -159,28 +159,28 @@ pub enum ReadFrom {
 pub struct ReadOne {
     /// The key of the stream.
     pub key: Bytes,
-    /// From where on it is read.
+    /// The start of the read.
     pub from: ReadFrom,
 }
 
-/// What XREADGROUP asks for.
+/// The arguments of XREADGROUP.
 #[derive(Debug, Drop)]
 pub struct ReadGroupCommand {
     /// The name of the group.
     pub group: Bytes,
     /// The name of the consumer.
     pub consumer: Bytes,
-    /// At most so many entries of each stream.
+    /// The most entries of each stream.
     pub limit: Option<u64>,
-    /// How many milliseconds it may wait for new entries, 0 for as long as it takes. The model doesn't look at it.
+    /// How many milliseconds it may wait for new entries; 0 is without limit. The model ignores it.
     pub block: Option<u64>,
-    /// What is delivered doesn't become pending.
+    /// Whether what is delivered doesn't become pending.
     pub noack: bool,
     /// One stream or more, each once.
     pub reads: Operands<ReadOne>,
 }
 
-/// What the long form of XPENDING asks for.
+/// The arguments of the long form of XPENDING.
 #[derive(Debug, Drop)]
 pub struct PendingRowsCommand {
     /// The key of the stream.
@@ -189,15 +189,15 @@ pub struct PendingRowsCommand {
     pub group: Bytes,
     /// The least idle time in milliseconds.
     pub min_idle: u64,
-    /// The ids that are looked at.
+    /// The ids of the rows.
     pub range: Range,
-    /// At most so many rows.
+    /// The most rows.
     pub limit: u64,
-    /// The rows of this consumer alone.
+    /// If given, only the rows of this consumer.
     pub consumer: Option<Bytes>,
 }
 
-/// What XCLAIM asks for.
+/// The arguments of XCLAIM.
 #[derive(Debug, Drop)]
 pub struct ClaimCommand {
     /// The key of the stream.
@@ -206,13 +206,13 @@ pub struct ClaimCommand {
     pub group: Bytes,
     /// The name of the consumer.
     pub consumer: Bytes,
-    /// Which entries are taken, and what becomes of them.
+    /// Which entries are claimed, and how their rows change.
     pub rule: ClaimRule,
     /// One id or more, as they were written, repeated ones included.
     pub ids: Operands<Id>,
 }
 
-/// What XAUTOCLAIM asks for.
+/// The arguments of XAUTOCLAIM.
 #[derive(Debug, Drop)]
 pub struct AutoClaimCommand {
     /// The key of the stream.
@@ -221,10 +221,10 @@ pub struct AutoClaimCommand {
     pub group: Bytes,
     /// The name of the consumer.
     pub consumer: Bytes,
-    /// Which entries are taken, and what becomes of them.
+    /// Which entries are claimed, and how their rows change.
     pub rule: ClaimRule,
     /// The least id that is scanned.
     pub start: Id,
-    /// At most so many entries are claimed or found deleted.
+    /// The most entries that are claimed or found deleted.
     pub limit: u64,
 }

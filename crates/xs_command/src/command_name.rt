@@ -4,7 +4,7 @@ ghost use Rattle.xs_command.specs.CommandName.{is_within_bounds};
 
 use crate::word::Word;
 
-/// The name of a command of Redis that is served.
+/// The name of a Redis command that this server has.
 #[derive(Clone, Copy, Debug, PartialEq, Eq)]
 pub(crate) enum CommandName {
     Ping,
@@ -114,8 +114,7 @@ impl CommandName {
         }
     }
 
-    /// How many words the command has, its name included: at least, and at most where there is a
-    /// limit.
+    /// The number of words of the command, its name included: the least, and the greatest, if there is a limit.
     pub(crate) fn counts(self) -> (usize, Option<usize>)
         ensures { result ≡ word_counts self }
     {
@@ -143,8 +142,7 @@ impl CommandName {
     }
 }
 
-/// Whether so many words are neither too few nor too many: at least the first number, and at most
-/// the second where there is one.
+/// Whether a number of words is at least the first of these numbers, and at most the second, if there is one.
 pub(crate) fn allows(counts: (usize, Option<usize>), count: usize) -> bool
     ensures { result ≡ is_within_bounds counts count }
 {

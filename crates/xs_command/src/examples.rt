@@ -1,4 +1,4 @@
-//! Examples of what words say, proved of the definition that `read_command` follows.
+//! Examples of commands and the words that spell them, proved of the definition that `read_command` follows.
 #![tactic(auto, unfolding(crate::proofs::Computing::example_functions))]
 
 ghost use Rattle.xs_command.specs.Examples.{StreamExamples, GroupExamples};
@@ -28,12 +28,12 @@ pub fn add_ids()
     ensures { AddIds }
 {}
 
-/// How many words a command has.
+/// How many words a command may have.
 pub fn counts()
     ensures { Counts }
 {}
 
-/// What a call that reads may answer.
+/// What a call that reads may return.
 pub fn given()
     ensures { Given }
 {}

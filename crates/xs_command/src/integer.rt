@@ -3,7 +3,7 @@ ghost use Rattle.std.specs.Prelude.{◌≡◌};
 
 use xs_bytes::{U63, natural};
 
-/// An integer of a command. No command uses a negative number's value.
+/// An integer of a command. No command uses the value of a negative number.
 #[derive(Clone, Copy, Debug, PartialEq, Eq)]
 pub enum Integer {
     /// A number below 0.
@@ -32,7 +32,7 @@ impl Integer {
         (0 < size && size <= 1 << 63).then_some(Self::Negative)
     }
 
-    /// The number, with 0 for one below 0.
+    /// The number, with 0 for a negative one.
     pub fn at_least_zero(self) -> u64
         ensures { result ≡ at_least_zero self }
     {

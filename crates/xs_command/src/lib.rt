@@ -1,5 +1,5 @@
-//! Commands, read from the words of a request. The rules are those of the Redis 7.0 documentation,
-//! on the pages of the commands.
+//! Commands, read from the words of a request. The rules are those of the Redis 7.0 documentation, on the pages of the
+//! commands.
 #![tactic(auto)]
 
 pub mod command;

@@ -3,14 +3,14 @@ ghost use Rattle.std.specs.Prelude.{◌≡◌, ◌∷◌, []};
 
 use std::marker::Model;
 
-/// The ids or streams that a command names. A contract sees their list. A single one takes no memory: when memory has
-/// run out, the commands of consumers are still read.
+/// The ids or streams that a command names. A contract sees their list. A single one takes no memory: if memory has run
+/// out, the commands of consumers can still be read.
 #[derive(Debug, Drop)]
 pub struct Operands<T> {
     kept: Kept<T>,
 }
 
-/// Where they lie.
+/// Where they are stored.
 #[derive(Debug, Drop)]
 pub(crate) enum Kept<T> {
     /// A single one, in the value itself.

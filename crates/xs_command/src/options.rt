@@ -1,4 +1,4 @@
-//! Options of a command: they stand in any order, and the last of a repeated one counts.
+//! Options of a command. They come in any order, and the last of a repeated one counts.
 ghost use Rattle.std.specs.Prelude.{◌≡◌, List, ℕ, Option, Result};
 ghost use Rattle.xs_resp.specs.declared.fault.Fault.{Fault};
 ghost use Rattle.xs_command.specs.Words.{Gives};
@@ -9,12 +9,12 @@ use crate::word::Word;
 use crate::words::Words;
 use std::alloc::Global;
 
-/// What the options of a command have said so far.
+/// The options of a command that were read so far.
 pub trait Options: Sized + Drop {
     ghost option: { Self → List ℕ → List (List ℕ) → Result (Self × Option (List (List ℕ))) Fault };
 
-    /// Reads an option of this name, whose further words come next. It gives the words behind the
-    /// option, or None where the name is no option.
+    /// Reads an option of this name, whose further words come next. It returns the words after the option, or None if
+    /// the name isn't an option.
     fn option<'a>(
         self,
         alloc: Global,
@@ -24,7 +24,7 @@ pub trait Options: Sized + Drop {
         ensures { Gives result (option self name.entry words.entry) };
 }
 
-/// Reads options as long as words are options.
+/// Reads options while words are options.
 pub fn read_options<'a, S: Options>(
     alloc: Global,
     none: S,

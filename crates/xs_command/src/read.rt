@@ -1,4 +1,4 @@
-//! From words to a command.
+//! The reading of a command from words.
 ghost use Rattle.std.specs.Prelude.{◌<◌, IfOk, length};
 ghost use Rattle.xs_command.specs.Words.{Gives};
 ghost use Rattle.xs_command.specs.WellFormed.{IsWellFormed};
@@ -16,8 +16,8 @@ use std::alloc::Global;
 use xs_bytes::Bytes;
 use xs_resp::{Fault, Request};
 
-/// The command that the words of a request spell, or their first fault from left to right. Each
-/// word that the command keeps is copied. A refusal for memory says nothing of the words.
+/// The command that the words of a request spell, or their first fault from left to right. Each word that the command
+/// stores is copied. If it is refused for memory, the words may be right or wrong.
 pub fn read_command(alloc: Global, words: &[Bytes]) -> Result<Command, Refusal>
     requires { 0 < length words.now }
     ensures exact { Gives result (command_of_words words.now) }
@@ -26,7 +26,7 @@ pub fn read_command(alloc: Global, words: &[Bytes]) -> Result<Command, Refusal>
     read_words(alloc, &Words::of_list(words))
 }
 
-/// As `read_command`, of the words of a request, which are lent from its bytes.
+/// Like `read_command`, for the words of a request, which are lent from its bytes.
 pub fn read_request(alloc: Global, request: Request<'_>) -> Result<Command, Refusal>
     requires { 0 < length request }
     ensures exact { Gives result (command_of_words request.entry) }
@@ -35,7 +35,7 @@ pub fn read_request(alloc: Global, request: Request<'_>) -> Result<Command, Refu
     read_words(alloc, &Words::of_request(request))
 }
 
-/// As `read_command`, where no word gives a fault too.
+/// Like `read_command`; no words are a fault too.
 #[tactic(auto, unfolding(crate::specs::Read::command_of_words))]
 fn read_words(alloc: Global, words: &Words<'_>) -> Result<Command, Refusal>
     ensures { Gives result (command_of_words words.now) }
@@ -50,7 +50,7 @@ fn read_words(alloc: Global, words: &Words<'_>) -> Result<Command, Refusal>
     read_named(alloc, name, &words)
 }
 
-/// The command of this name, whose further words these are.
+/// The command of this name, with these further words.
 #[tactic(auto, unfolding(crate::specs::Ping::quit))]
 fn read_named(alloc: Global, name: CommandName, words: &Words<'_>) -> Result<Command, Refusal>
     ensures { Gives result (syntax name words.now) }

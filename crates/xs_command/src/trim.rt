@@ -1,4 +1,4 @@
-//! The options MAXLEN and MINID of XADD and XTRIM. Only one of them may stand in a command.
+//! The options MAXLEN and MINID of XADD and XTRIM. A command may have only one of them.
 ghost use Rattle.std.specs.Prelude.{◌≡◌};
 ghost use Rattle.xs_command.specs.Trim.{max_len, min_id, first_trim, trim_option};
 
@@ -34,7 +34,7 @@ impl Options for Option<Trim> {
     }
 }
 
-/// A trim that was read, where none stands before it.
+/// A trim that was read, if there is none before it.
 fn first_trim<'a>(
     earlier: Option<Trim>,
     read: Result<(Trim, Words<'a>), Fault>,
@@ -48,7 +48,7 @@ fn first_trim<'a>(
     Ok((Some(trim), Some(words)))
 }
 
-/// What stands behind MAXLEN. `~` trims exactly, as `=` does.
+/// Reads what follows MAXLEN. `~` trims exactly, as `=` does.
 #[tactic(auto, unfolding(crate::specs::Trim::max_len))]
 fn read_max_len(words: Words<'_>) -> Result<(Trim, Words<'_>), Fault>
     ensures { result ≡ max_len words.entry }
@@ -57,7 +57,7 @@ fn read_max_len(words: Words<'_>) -> Result<(Trim, Words<'_>), Fault>
     Ok((Trim::MaxLen(count.get()), words))
 }
 
-/// What stands behind MINID.
+/// Reads what follows MINID.
 #[tactic(auto, unfolding(crate::specs::Trim::min_id))]
 fn read_min_id(words: Words<'_>) -> Result<(Trim, Words<'_>), Fault>
     ensures { result ≡ min_id words.entry }

@@ -15,8 +15,8 @@ use xs_resp::{Fault, Request};
 use xs_stream::Id;
 use xs_stream::range::{parse_high, parse_low};
 
-/// The words that are still to be read: those of a list, and then those of a request. One of both is empty. A contract
-/// sees the list of all of them.
+/// The words that are still to be read: those of a list, and then those of a request. One of the two is empty. A
+/// contract sees the list of all of them.
 #[derive(Drop)]
 pub struct Words<'a> {
     listed: &'a [Bytes],
@@ -49,7 +49,7 @@ impl<'a> Words<'a> {
         Self { listed: &[], sent }
     }
 
-    /// How many words are left.
+    /// The number of words left.
     #[inline(always)]
     pub fn len(&self) -> usize
         ensures count { result ≡ length self.now }
@@ -58,7 +58,7 @@ impl<'a> Words<'a> {
         self.listed.len() + self.sent.len()
     }
 
-    /// The first word, and those behind it.
+    /// The first word, and those after it.
     #[inline(always)]
     fn split_first(&self) -> Option<(&'a [u8], Words<'a>)>
         ensures { MatchOption result (self.now ≡ []) (λ first. self.now ≡ first.0.now ∷ first.1) }
@@ -72,7 +72,7 @@ impl<'a> Words<'a> {
         Some((first, Words { listed, sent }))
     }
 
-    /// The next word, and those behind it.
+    /// The next word, and those after it.
     #[inline(always)]
     #[tactic(auto, unfolding(crate::specs::Words::word))]
     pub fn word(&self) -> Result<(Word<'a>, Words<'a>), Fault>
@@ -84,7 +84,7 @@ impl<'a> Words<'a> {
         }
     }
 
-    /// The words behind `=` or `~`, where they begin with one.
+    /// The words after `=` or `~`, if they begin with one.
     #[tactic(auto, unfolding(crate::specs::Words::behind_sign))]
     pub(crate) fn behind_sign(self) -> Words<'a>
         ensures { result ≡ behind_sign self.entry }
@@ -99,7 +99,7 @@ impl<'a> Words<'a> {
         self
     }
 
-    /// The first words, so many, copied; and those behind them.
+    /// The first `count` words, copied, and those after them.
     pub(crate) fn names(
         &self,
         alloc: Global,
@@ -118,7 +118,7 @@ impl<'a> Words<'a> {
         Ok((List::new(names), left))
     }
 
-    /// These words once more.
+    /// A second view of these words.
     #[inline(always)]
     pub fn again(&self) -> Words<'a>
         ensures { result ≡ self.now }
@@ -191,7 +191,7 @@ impl<'a> Words<'a> {
         Ok((high, words))
     }
 
-    /// The command, where no word is left, and the fault otherwise.
+    /// The command if no word is left, and else the fault.
     #[tactic(auto, unfolding(crate::specs::Syntax::only, crate::specs::Words::word))]
     pub(crate) fn only(&self, command: Command, fault: Fault) -> Result<Command, Refusal>
         ensures { Gives result (only command fault self.now) }
@@ -202,7 +202,7 @@ impl<'a> Words<'a> {
         }
     }
 
-    /// This id, and the ids that the words begin with. The room for words that are none is given back.
+    /// This id, and the ids that the words begin with. Room for words that aren't ids is given back.
     fn ids_behind(self, alloc: Global, first: Id) -> Result<(Operands<Id>, Words<'a>), AllocError>
         ensures { IfOk result (λ found. found ≡ (first ∷ (leading_ids self.entry).0, (leading_ids self.entry).1)) }
     {
@@ -220,7 +220,7 @@ impl<'a> Words<'a> {
         Ok((Operands::many(items), left))
     }
 
-    /// One id or more, as long as words are ids. A single one takes no memory.
+    /// One id or more, while words are ids. A single one takes no memory.
     #[tactic(auto, unfolding(crate::specs::Syntax::ids), using(crate::proofs::IdSteps::single))]
     pub(crate) fn ids(&self, alloc: Global) -> Result<(Operands<Id>, Words<'a>), Refusal>
         ensures { Gives result (ids self.now) }

@@ -16,10 +16,10 @@ use xs_bytes::{List, number};
 use xs_resp::Fault;
 use xs_stream::{AddId, Field, Id, Trim};
 
-/// What the options of XADD have said.
+/// The options of XADD that were read.
 #[derive(Clone, Copy, Debug, PartialEq, Eq)]
 pub(crate) struct AddOptions {
-    /// A missing key is made.
+    /// Whether a missing key is created.
     make: bool,
     trim: Option<Trim>,
 }

@@ -11,7 +11,7 @@ use std::alloc::Global;
 use xs_group::{ClaimRule, ClaimTime};
 use xs_resp::Fault;
 
-/// What the options of XAUTOCLAIM have said.
+/// The options of XAUTOCLAIM that were read.
 #[derive(Clone, Copy, Debug, PartialEq, Eq)]
 pub(crate) struct AutoClaimOptions {
     limit: u64,
@@ -23,7 +23,7 @@ impl Options for AutoClaimOptions {
 
     ghost option = { auto_claim_option };
 
-    /// `COUNT n`, where n is at least 1, or `JUSTID`.
+    /// `COUNT n`, with n at least 1, or `JUSTID`.
     #[tactic(auto, unfolding(crate::specs::Xautoclaim::auto_claim_option))]
     fn option<'a>(
         self,

@@ -51,7 +51,7 @@ impl Options for ClaimRule {
     }
 }
 
-/// A moment that was written; one below 0 is that of the claim.
+/// A moment that was given; a negative one is that of the claim.
 fn time_of(time: Integer) -> ClaimTime
     ensures { result ≡ claim_time_of time }
 {

@@ -14,7 +14,7 @@ use std::alloc::Global;
 use xs_resp::Fault;
 use xs_stream::Id;
 
-/// What XGROUP is to do.
+/// The subcommands of XGROUP.
 #[derive(Clone, Copy, Debug, PartialEq, Eq)]
 pub(crate) enum Subcommand {
     Create,
@@ -45,8 +45,7 @@ impl Subcommand {
         }
     }
 
-    /// How many words there are, XGROUP and the subcommand included: at least, and at most where
-    /// there is a limit.
+    /// The number of words, XGROUP and the subcommand included: the least, and the greatest, if there is a limit.
     fn counts(self) -> (usize, Option<usize>)
         ensures { result ≡ subcommand_word_counts self }
     {
@@ -60,10 +59,10 @@ impl Subcommand {
     }
 }
 
-/// What the options of XGROUP CREATE have said.
+/// The options of XGROUP CREATE that were read.
 #[derive(Clone, Copy, Debug, PartialEq, Eq)]
 pub(crate) struct CreateOptions {
-    /// A missing key is made.
+    /// Whether a missing key is created.
     make: bool,
 }
 
@@ -105,7 +104,7 @@ pub(crate) fn read(alloc: Global, words: &Words<'_>) -> Result<Command, Refusal>
     read_named(alloc, sub, &words)
 }
 
-/// The command of this subcommand, whose further words these are.
+/// The command of this subcommand, with these further words.
 fn read_named(alloc: Global, sub: Subcommand, words: &Words<'_>) -> Result<Command, Refusal>
     ensures { Gives result (group_syntax sub words.now) }
 {

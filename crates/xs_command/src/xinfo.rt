@@ -15,7 +15,7 @@ use std::alloc::Global;
 use xs_bytes::Bytes;
 use xs_resp::Fault;
 
-/// What XINFO tells of.
+/// The subcommands of XINFO.
 #[derive(Clone, Copy, Debug, PartialEq, Eq)]
 pub(crate) enum Subcommand {
     Groups,
@@ -40,8 +40,7 @@ impl Subcommand {
         }
     }
 
-    /// How many words there are, XINFO and the subcommand included: at least, and at most where
-    /// there is a limit.
+    /// The number of words, XINFO and the subcommand included: the least, and the greatest, if there is a limit.
     fn counts(self) -> (usize, Option<usize>)
         ensures { result ≡ subcommand_word_counts self }
     {
@@ -68,7 +67,7 @@ pub(crate) fn read(alloc: Global, words: &Words<'_>) -> Result<Command, Refusal>
     read_named(alloc, sub, &words)
 }
 
-/// The command of this subcommand, whose further words these are.
+/// The command of this subcommand, with these further words.
 fn read_named(alloc: Global, sub: Subcommand, words: &Words<'_>) -> Result<Command, Refusal>
     ensures { Gives result (info_syntax sub words.now) }
 {
@@ -122,7 +121,7 @@ fn read_form(key: Bytes, words: &Words<'_>) -> Result<Command, Refusal>
     Err(Refusal::Said(Fault::Syntax))
 }
 
-/// How many of each list there are at most if nothing is said, or a number below 0.
+/// The most of each list without COUNT, or with a negative number.
 const FULL_LIMIT: u64 = 10;
 
 /// Nothing, or COUNT and a number.
@@ -139,7 +138,7 @@ fn read_full(key: Bytes, words: &Words<'_>) -> Result<Command, Refusal>
     Err(Refusal::Said(Fault::Syntax))
 }
 
-/// The number behind COUNT.
+/// The number after COUNT.
 #[tactic(auto, unfolding(crate::specs::Xinfo::stream_counted))]
 fn read_counted(key: Bytes, words: &Words<'_>) -> Result<Command, Refusal>
     ensures { Gives result (stream_counted key words.now) }
@@ -155,7 +154,7 @@ fn in_full(key: Bytes, limit: Option<u64>) -> Command
     Command::Inspect(Inspection::StreamInFull { key, limit })
 }
 
-/// All if it is 0, and ten if it is below 0.
+/// All if it is 0, and ten if it is negative.
 fn limit_of(count: Integer) -> Option<u64>
     ensures { result ≡ full_limit count }
 {

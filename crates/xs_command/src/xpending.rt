@@ -20,7 +20,7 @@ pub(crate) fn read(alloc: Global, words: &Words<'_>) -> Result<Command, Refusal>
     read_form(alloc, key, group, &words)
 }
 
-/// Nothing, or the long form. The number of words comes before what they say.
+/// Reads the long form, or the short one if no words are left. The number of words is checked first.
 #[tactic(auto, unfolding(crate::specs::Xpending::form, crate::specs::Words::word))]
 fn read_form(alloc: Global, key: Bytes, group: Bytes, words: &Words<'_>) -> Result<Command, Refusal>
     ensures { Gives result (form key group words.now) }
@@ -40,7 +40,7 @@ fn read_form(alloc: Global, key: Bytes, group: Bytes, words: &Words<'_>) -> Resu
     }
 }
 
-/// `ms low high count [consumer]`, behind IDLE.
+/// `ms low high count [consumer]`, after IDLE.
 #[tactic(auto, unfolding(crate::specs::Xpending::idle_rows))]
 fn read_idle_rows(
     alloc: Global,
@@ -80,7 +80,7 @@ fn read_rows(
     words.only(Command::PendingRows(rows), Fault::Syntax)
 }
 
-/// The next word as a name, where there is one.
+/// The next word as a name, if there is one.
 #[tactic(auto, unfolding(crate::specs::Xpending::optional, crate::specs::Words::word))]
 fn optional(alloc: Global, words: Words<'_>) -> Result<(Option<Bytes>, Words<'_>), Refusal>
     ensures { Gives result (optional words.entry) }

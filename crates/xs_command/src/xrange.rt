@@ -11,7 +11,7 @@ use std::alloc::Global;
 use xs_resp::Fault;
 use xs_stream::Range;
 
-/// What the options of XRANGE and XREVRANGE have said.
+/// The options of XRANGE and XREVRANGE that were read.
 #[derive(Clone, Copy, Debug, PartialEq, Eq)]
 pub(crate) struct ScanOptions {
     limit: Option<u64>,
@@ -22,7 +22,7 @@ impl Options for ScanOptions {
 
     ghost option = { scan_option };
 
-    /// `COUNT n`. A number below 0 counts as 0.
+    /// `COUNT n`. A negative number counts as 0.
     #[tactic(auto, unfolding(crate::specs::Xrange::scan_option))]
     fn option<'a>(
         self,

@@ -17,14 +17,14 @@ use xs_bytes::{Bytes, List};
 use xs_resp::Fault;
 use xs_stream::Id;
 
-/// Who reads.
+/// The group and the consumer that read.
 #[derive(Debug, Drop)]
 pub(crate) struct Reader {
     group: Bytes,
     consumer: Bytes,
 }
 
-/// What the options of XREADGROUP have said.
+/// The options of XREADGROUP that were read.
 #[derive(Debug, Drop)]
 pub(crate) struct ReadOptions {
     reader: Option<Reader>,
@@ -70,7 +70,7 @@ impl Options for ReadOptions {
     }
 }
 
-/// `group consumer`, behind GROUP.
+/// `group consumer`, after GROUP.
 #[tactic(auto, unfolding(crate::specs::Xreadgroup::reader))]
 fn read_reader<'a>(alloc: Global, words: &Words<'a>) -> Result<(Reader, Words<'a>), Refusal>
     ensures { Gives result (reader words.now) }
@@ -80,7 +80,7 @@ fn read_reader<'a>(alloc: Global, words: &Words<'a>) -> Result<(Reader, Words<'a
     Ok((Reader { group, consumer }, words))
 }
 
-/// A number of 0 or below sets no limit.
+/// 0 or a negative number sets no limit.
 fn limit_of(count: Integer) -> Option<u64>
     ensures { result ≡ limit_of count }
 {
@@ -109,7 +109,7 @@ pub(crate) fn read(alloc: Global, words: &Words<'_>) -> Result<Command, Refusal>
     read_command(alloc, options, words)
 }
 
-/// What stands behind STREAMS.
+/// Reads what follows STREAMS.
 fn read_command(alloc: Global, options: ReadOptions, words: Words<'_>) -> Result<Command, Refusal>
     ensures { Gives result (behind_streams options options.reader words.entry) }
 {
@@ -166,7 +166,7 @@ fn read_single(alloc: Global, words: &Words<'_>) -> Result<Operands<ReadOne>, Re
     Ok(Operands::one(ReadOne { key, from }))
 }
 
-/// Whether no key stands there a second time. A single key needs no memory.
+/// Whether no key is repeated. A single key needs no memory.
 fn is_distinct(alloc: Global, keys: &[Bytes]) -> Result<bool, AllocError>
     ensures { IfOk result (λ answer. answer ≡ is_distinct keys.now) }
 {
@@ -200,7 +200,7 @@ fn each_from(
     Ok(Operands::many(reads))
 }
 
-/// The next word, from where a stream is read.
+/// The next word, the start of the read of a stream.
 #[tactic(auto, unfolding(crate::specs::Streams::read_from))]
 fn read_from<'a>(words: &Words<'a>) -> Result<(ReadFrom, Words<'a>), Fault>
     ensures { result ≡ read_from words.now }

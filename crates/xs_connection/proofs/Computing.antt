@@ -10,7 +10,7 @@ use Rattle.xs_connection.specs.ConnectionName.{name_of}
 use Rattle.xs_connection.specs.Read.{connection_command}
 use Rattle.xs_connection.specs.Unknown.{arguments}
 
--- its line is what an example names
+-- the definitions that examples compute
 unfoldable pub example_functions : Type 0
 unfolding digits is_word up_to operand number ending hello hello_option auth client set_name set_info subcommand_of select echo list_commands config config_behind name_of connection_command arguments
 example_functions = Unit {0}

@@ -12,7 +12,7 @@ use Rattle.xs_connection.specs.declared.read_client.Subcommand.{Subcommand}
 use Rattle.xs_connection.specs.declared.read_client.Subcommand.TheVariants as sub
 use Rattle.xs_connection.specs.Reading.{operand, ending}
 
--- a name has no space and no control character; no name at all takes a name away
+-- a name has no space and no control character; an empty name removes the name
 abbrev pub is_name : List ℕ → Bool
 is_name name = list_all is_ascii_graphic name
 
@@ -22,7 +22,7 @@ set_name = do
   name ← operand
   ending Arity (if is_name name then SetName name else BadName)
 
--- it is what a library tells of itself
+-- the word names a property that a library reports about itself
 abbrev pub is_library_word : List ℕ → Bool
 is_library_word word = is_word (codes "lib-name") word || is_word (codes "lib-ver") word
 
@@ -43,7 +43,7 @@ subcommands =
 unfoldable pub subcommand_of : List ℕ → Option Subcommand
 subcommand_of text = option_map (λ entry. entry.1) (find (λ entry. is_word entry.0 text) subcommands)
 
--- what stands behind each
+-- the syntax after each
 abbrev pub client_named : Option Subcommand → Reading ConnectionCommand
 client_named None words = Err UnknownCommand
 client_named (Some sub.SetName) words = set_name words

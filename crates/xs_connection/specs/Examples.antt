@@ -1,4 +1,4 @@
--- What a connection is answered itself, by examples, as a real Redis 7.0 answers them. Redis knows RESP3, tells more in
+-- The replies of a connection itself, by examples, as a real Redis 7.0 gives them. Redis knows RESP3, reports more in
 -- CLIENT LIST, and puts spaces in the place of CR and LF.
 use Rattle.std.specs.Prelude.{◌≡◌, ℕ, Bool, true, false, List, [], ◌∷◌, ◌++◌, codes, replicate, Option, Some, None}
 use Rattle.xs_resp.specs.declared.fault.Fault.TheVariants.{Arity, NotInteger, Syntax}
@@ -22,11 +22,11 @@ third name is_allowed = record { id = 3; name = name; is_allowed = is_allowed; t
 abbrev pub secret : Option (List ℕ)
 secret = Some (codes "secret")
 
--- what the server tells of itself
+-- what the server reports about itself
 abbrev pub about : List ℕ
 about = codes "loading:0"
 
--- a line of words is answered so, and the connection has this name then and may ask or not
+-- a line of words gets this reply; then the connection has this name and may send commands or not
 abbrev pub IsSaid : Option (List ℕ) → Standing → List ℕ → Reply → Standing → Type 0
 IsSaid wanted old text reply new = answer_of wanted about old (line text) ≡ (reply, new)
 
@@ -34,7 +34,7 @@ IsSaid wanted old text reply new = answer_of wanted about old (line text) ≡ (r
 abbrev pub IsSaidFirst : List ℕ → Reply → Standing → Type 0
 IsSaidFirst text reply new = stranger_answer secret about (third [] false) (line text) ≡ (reply, new)
 
--- what changes nothing, where no password is wanted
+-- a reply that changes nothing, if no password is required
 abbrev pub Tells : List ℕ → Reply → Type 0
 Tells text reply = IsSaid None (third (codes "app") true) text reply (third (codes "app") true)
 
@@ -65,7 +65,7 @@ other_protocol = ErrorText (codes "NOPROTO unsupported protocol version")
 abbrev pub other_database : Reply
 other_database = ErrorText (codes "ERR DB index is out of range")
 
--- what is told, and what is accepted
+-- what is reported, and what is accepted
 pub record Telling : Type 0 where
   pub hello : Tells (codes "HELLO") greeting
   pub hello_of_resp2 : Tells (codes "hello 2") greeting
@@ -98,14 +98,14 @@ pub record Telling : Type 0 where
   pub unknown :
       Tells (codes "FOO a b") (ErrorText (codes "ERR unknown command 'FOO', with args beginning with: 'a' 'b' "))
 
--- what it is told of itself, in a list of all
+-- the connection in a list of all
 abbrev pub told_of_itself : List ℕ
 told_of_itself = codes "id=3 name=app db=0 user=default resp=2" ++ 10 ∷ []
 
 pub record Lists : Type 0 where
   pub itself : Tells (codes "CLIENT LIST") (Bulk told_of_itself)
 
--- what a connection says of itself
+-- what a connection states about itself
 pub record Standings : Type 0 where
   pub a_name : IsSaid None (third [] true) (codes "CLIENT SETNAME app") okay (third (codes "app") true)
   pub a_name_in_hello : IsSaid None (third [] true) (codes "HELLO 2 SETNAME n") greeting (third (codes "n") true)
@@ -120,7 +120,7 @@ pub record Standings : Type 0 where
   pub a_reset_takes_the_password_away :
       IsSaid secret (third (codes "app") true) (codes "RESET") (Simple simple.Reset) (third [] false)
 
--- what is answered before the password is given
+-- replies before the password is given
 pub record Strangers : Type 0 where
   pub the_password : IsSaidFirst (codes "AUTH secret") okay (third [] true)
   pub of_the_user : IsSaidFirst (codes "AUTH default secret") okay (third [] true)
@@ -145,7 +145,7 @@ pub record Strangers : Type 0 where
 abbrev pub with_it : Transaction → Standing
 with_it transaction = record { id = 3; name = []; is_allowed = true; transaction = transaction }
 
--- a line of words is answered so, and the transaction is so far then
+-- a line of words gets this reply, and this is the transaction after it
 abbrev pub GoesOn : Transaction → List ℕ → Reply → Transaction → Type 0
 GoesOn old text reply new = IsSaid None (with_it old) text reply (with_it new)
 
@@ -155,7 +155,7 @@ ping = line (codes "PING")
 abbrev pub length_of_s : List (List ℕ)
 length_of_s = line (codes "XLEN s")
 
--- between MULTI and EXEC; the text for a command of the connection, and where there is no room, is ours
+-- between MULTI and EXEC; the text for a command of the connection, and for a lack of room, is this server's own
 pub record Transactions : Type 0 where
   pub begins : GoesOn Closed (codes "MULTI") okay (Open [])
   pub not_in_another :

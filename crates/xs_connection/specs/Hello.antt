@@ -25,7 +25,7 @@ hello_option options name words =
     then option_with (operand >>= λ given. value (record options { name = Some given })) words
     else Ok (options, None))
 
--- the name that is asked for, if one is, is a name
+-- the name that is asked for, if there is one, has to be a valid name
 abbrev pub has_good_name : Option (List ℕ) → ConnectionCommand → ConnectionCommand
 has_good_name None command = command
 has_good_name (Some name) command = if is_name name then command else BadName
@@ -35,7 +35,7 @@ abbrev pub is_two : Integer → Bool
 is_two Negative = false
 is_two (Natural n) = n == 2
 
--- behind the number of a protocol
+-- after the number of a protocol
 abbrev pub hello_behind : Option Integer → Reading ConnectionCommand
 hello_behind None words = Err NotInteger
 hello_behind (Some number) words =
@@ -48,7 +48,7 @@ unfoldable pub hello : Reading ConnectionCommand
 hello [] = Ok (Hello no_options)
 hello (w ∷ words) = hello_behind (integer_of w) words
 
--- behind the first word: it is a user if one more follows
+-- after the first word: it is a user if one more follows
 abbrev pub auth_behind : List ℕ → Reading ConnectionCommand
 auth_behind first [] = Ok (Auth (record { user = None; password = first }))
 auth_behind first (w ∷ words) = ending Syntax (Auth (record { user = Some first; password = w })) words

@@ -29,7 +29,7 @@ unfoldable pub list_commands : Reading ConnectionCommand
 list_commands [] = Ok ListNothing
 list_commands (w ∷ words) = if is_word (codes "docs") w then Ok ListNothing else Err UnknownCommand
 
--- behind GET: one pattern or more
+-- after GET: one pattern or more
 unfoldable pub config_behind : Reading ConnectionCommand
 config_behind [] = Err Arity
 config_behind (pattern ∷ words) = Ok ListNothing

@@ -1,4 +1,4 @@
--- How much may wait for EXEC.
+-- How many requests may wait for EXEC.
 use Rattle.std.specs.Prelude.{ℕ, ◌+◌, Bool, ◌&&◌, nat_lt, nat_le, List, length, sum_by}
 
 -- the bytes of a request's words

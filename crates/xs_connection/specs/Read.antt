@@ -1,4 +1,4 @@
--- What words say: a command of the connection itself, or a fault.
+-- The reading of words: a command of the connection itself, or a fault.
 use Rattle.std.specs.Prelude.{ℕ, Bool, true, false, List, [], ◌∷◌, Option, Some, None, Ok, Err}
 use Rattle.xs_resp.specs.declared.fault.Fault.TheVariants.{UnknownCommand, Arity}
 use Rattle.xs_command.specs.Words.{Reading, ◌>>=◌}
@@ -14,7 +14,7 @@ use Rattle.xs_connection.specs.Hello.{hello, auth}
 use Rattle.xs_connection.specs.Client.{client}
 use Rattle.xs_connection.specs.Others.{select, echo, list_commands, config}
 
--- what stands behind each name
+-- the syntax after each name
 abbrev pub command_by_name : Option ConnectionName → Reading ConnectionCommand
 command_by_name None words = Err UnknownCommand
 command_by_name (Some Hello) words = hello words
@@ -31,7 +31,7 @@ command_by_name (Some Exec) words = ending Arity command.Exec words
 command_by_name (Some Discard) words = ending Arity command.Discard words
 command_by_name (Some Info) words = Ok command.Info
 
--- a name, and what stands behind it
+-- a name, and what follows it
 unfoldable pub connection_command : Reading ConnectionCommand
 connection_command = do
   first ← operand
@@ -42,7 +42,7 @@ abbrev pub first_name : List (List ℕ) → Option ConnectionName
 first_name [] = None
 first_name (w ∷ words) = name_of w
 
--- what may be asked before a password is given
+-- what may be sent before a password is given
 abbrev pub is_greeting : Option ConnectionName → Bool
 is_greeting (Some Hello) = true
 is_greeting (Some Auth) = true

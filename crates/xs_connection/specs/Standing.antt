@@ -1,4 +1,4 @@
--- What a connection has said of itself, and what it is answered itself. (Redis, HELLO, AUTH, CLIENT, SELECT, ECHO,
+-- The state of a connection, and the replies of the connection itself. (Redis, HELLO, AUTH, CLIENT, SELECT, ECHO,
 -- RESET, MULTI, INFO.)
 use Rattle.std.specs.Prelude.{◌≡◌, ◌⊎◌, ℕ, Bool, true, false, not, ◌&&◌, List, [], ◌∷◌, ◌++◌, codes, decimal, Option, Some, None}
 use Rattle.std.specs.Prelude.{Result, Ok, Err, is_some, if◌then◌else◌}
@@ -48,16 +48,16 @@ not_queued = codes "ERR Command not allowed inside a transaction"
 abbrev pub bad_name : List ℕ
 bad_name = codes "ERR Client names cannot contain spaces, newlines or special characters."
 
--- ---- the answers
+-- ---- the replies
 
 abbrev pub okay : Reply
 okay = Simple simple.Okay
 
--- the version that this server speaks like
+-- the version of Redis that this server reports
 abbrev pub version : List ℕ
 version = codes "7.0.15"
 
--- what HELLO tells of the server and of the connection
+-- what HELLO reports about the server and the connection
 abbrev pub greeting : ℕ → List Reply
 greeting id =
     Bulk (codes "server") ∷ Bulk (codes "redis")
@@ -68,7 +68,7 @@ greeting id =
     ∷ Bulk (codes "role") ∷ Bulk (codes "master")
     ∷ Bulk (codes "modules") ∷ Array (items_of []) ∷ []
 
--- no name is none
+-- an empty name is no name
 abbrev pub name_reply : List ℕ → Reply
 name_reply [] = NullBulk
 name_reply (byte ∷ bytes) = Bulk (byte ∷ bytes)
@@ -84,15 +84,15 @@ abbrev pub with_name : Option (List ℕ) → Standing → Standing
 with_name None standing = standing
 with_name (Some name) standing = record standing { name = name }
 
--- a connection that has said nothing
+-- a new connection
 abbrev pub as_new : Option (List ℕ) → Standing → Standing
 as_new wanted standing = record standing { name = []; is_allowed = not (is_some wanted); transaction = Closed }
 
--- how it stands behind a request that is refused
+-- the connection after a request that is refused
 abbrev pub spoilt : Standing → Standing
 spoilt standing = record standing { transaction = spoiled standing.transaction }
 
--- with how far its transaction is then
+-- with the transaction after the reply
 abbrev pub with_transaction : Standing → Reply × Transaction → Reply × Standing
 with_transaction standing (reply, transaction) = (reply, record standing { transaction = transaction })
 
@@ -119,8 +119,8 @@ hello_answer wanted standing None name = hello_alone standing name
 hello_answer wanted standing (Some login) name =
     if is_right wanted login then greet standing name else (ErrorText wrong_password, standing)
 
--- What each command is answered if this password is wanted, and how the connection stands then. INFO is answered what
--- the server tells of itself.
+-- The reply to each command if this password is required, and the connection after it. The reply to INFO is what the
+-- server reports about itself.
 abbrev pub applied : Option (List ℕ) → List ℕ → Standing → ConnectionCommand → Reply × Standing
 applied wanted told standing (Hello hello) = hello_answer wanted standing hello.login hello.name
 applied wanted told standing OtherProtocol = (ErrorText other_protocol, standing)
@@ -140,7 +140,7 @@ applied wanted told standing Exec = with_transaction standing (executed standing
 applied wanted told standing Discard = with_transaction standing (discarded standing.transaction)
 applied wanted told standing Info = (Bulk told, standing)
 
--- what is heard between MULTI and EXEC
+-- what is accepted between MULTI and EXEC
 abbrev pub is_heard : ConnectionCommand → Bool
 is_heard Reset = true
 is_heard Multi = true
@@ -154,35 +154,35 @@ answer_to_command wanted told standing command =
     if is_queueing standing.transaction && not (is_heard command) then (ErrorText not_queued, spoilt standing)
     else applied wanted told standing command
 
--- what words are answered that say a command of the connection, or a fault
+-- the reply to words that spell a command of the connection, or a fault
 abbrev pub answer_to :
     Option (List ℕ) → List ℕ → Standing → List (List ℕ) → Result ConnectionCommand Fault → Reply × Standing
 answer_to wanted told standing words (Ok command) = answer_to_command wanted told standing command
 answer_to wanted told standing words (Err UnknownCommand) = (ErrorText (unknown_text words), spoilt standing)
 answer_to wanted told standing words (Err fault) = (Error fault, spoilt standing)
 
--- what words are answered that are no command of the keyspace
+-- the reply to words that aren't a command of the keyspace
 abbrev pub answer_of : Option (List ℕ) → List ℕ → Standing → List (List ℕ) → Reply × Standing
 answer_of wanted told standing words = answer_to wanted told standing words (connection_command words)
 
--- so they are answered, whatever the server tells of itself; or that memory ran out, which is a refusal
+-- the words get this reply, for some report of the server about itself; or memory ran out, which is a refusal
 abbrev pub IsAnswered : Option (List ℕ) → Standing → List (List ℕ) → Reply → Standing → Type 0
 IsAnswered wanted old words reply new =
     ((told : List ℕ) × ((reply, new) ≡ answer_of wanted told old words))
     ⊎ ((reply ≡ Error Memory) × (new ≡ spoilt old))
 
--- what words are answered before the password is given: only a greeting is heard
+-- the reply to words before the password is given: only a greeting is accepted
 abbrev pub stranger_answer : Option (List ℕ) → List ℕ → Standing → List (List ℕ) → Reply × Standing
 stranger_answer wanted told standing words =
     if is_greeting (first_name words) then answer_of wanted told standing words else (ErrorText no_auth, standing)
 
--- so is a stranger answered, or that memory ran out
+-- the words get this reply before the password is given, or memory ran out
 abbrev pub IsAnsweredStranger : Option (List ℕ) → Standing → List (List ℕ) → Reply → Standing → Type 0
 IsAnsweredStranger wanted old words reply new =
     ((told : List ℕ) × ((reply, new) ≡ stranger_answer wanted told old words))
     ⊎ ((reply ≡ Error Memory) × (new ≡ spoilt old))
 
--- the words of a command wait for EXEC, or memory ran out, and none do any more
+-- the words of a command wait for EXEC; or memory ran out, and no words wait any more
 abbrev pub IsQueued : Standing → List (List ℕ) → Reply → Standing → Type 0
 IsQueued old words reply new =
     ((reply, new) ≡ with_transaction old (queued old.transaction words)) ⊎ ((reply ≡ Error Memory) × (new ≡ spoilt old))

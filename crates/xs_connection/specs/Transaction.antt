@@ -13,12 +13,12 @@ is_queueing (Open queue) = true
 is_queueing Spoiled = true
 is_queueing _ = false
 
--- behind a request that is refused nothing waits any more, and EXEC will say so
+-- after a request that is refused nothing waits any more, and EXEC will report it
 abbrev pub spoiled : Transaction → Transaction
 spoiled (Open queue) = Spoiled
 spoiled transaction = transaction
 
--- what is still to be asked
+-- the requests that are still to be served
 abbrev pub released : List (List (List ℕ)) → Transaction
 released [] = Closed
 released queue = Released queue
@@ -40,7 +40,7 @@ queued (Open queue) words =
     else (ErrorText (codes "ERR a transaction holds at most 1024 commands of 1048576 bytes"), Spoiled)
 queued transaction words = (Simple Queued, transaction)
 
--- EXEC: the requests are asked now, and their replies are the items of its own
+-- EXEC: the requests are served now, and their replies are the items of its own
 abbrev pub executed : Transaction → Reply × Transaction
 executed (Open queue) = (Opening (length queue), released queue)
 executed Spoiled = (ErrorText (codes "EXECABORT Transaction discarded because of previous errors."), Closed)

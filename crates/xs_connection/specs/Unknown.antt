@@ -1,9 +1,9 @@
--- An unknown command is named, with the words behind it, as a real Redis 7.0 words and cuts it. Control bytes are told by
--- their numbers, so the text has no end of a line.
+-- The error for an unknown command names it, with the words after it, as a real Redis 7.0 words and cuts it. Control
+-- bytes are shown by their numbers, so the text has no line end.
 use Rattle.std.specs.Prelude.{ℕ, ◌+◌, ◌-◌, ◌/◌, ◌%◌, ◌||◌, ◌==◌, nat_lt, List, [], ◌∷◌, ◌++◌, length, take, codes, if◌then◌else◌}
 use Rattle.std.specs.List.{flat_map}
 
--- a digit of 16
+-- a hexadecimal digit
 abbrev pub hex_digit : ℕ → ℕ
 hex_digit n = if nat_lt n 10 then 48 + n else 87 + n
 
@@ -20,7 +20,7 @@ escaped bytes = flat_map escaped_byte bytes
 abbrev pub quoted : List ℕ → List ℕ
 quoted word = 39 ∷ escaped word ++ (39 ∷ 32 ∷ [])
 
--- the words in quotes, cut where these have 128 bytes
+-- the words in quotes, cut if they reach 128 bytes
 unfoldable pub arguments : ℕ → List (List ℕ) → List ℕ
 arguments used [] = []
 arguments used (w ∷ words) =

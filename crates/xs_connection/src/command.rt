@@ -2,14 +2,14 @@
 
 use xs_bytes::Bytes;
 
-/// A user, if one is named, and its password.
+/// A user, if one is given, and its password.
 #[derive(Debug, Drop)]
 pub struct Login {
     pub user: Option<Bytes>,
     pub password: Bytes,
 }
 
-/// What HELLO asks for.
+/// The arguments of HELLO.
 #[derive(Debug, Drop)]
 pub struct HelloCommand {
     pub login: Option<Login>,
@@ -28,7 +28,7 @@ pub enum ConnectionCommand {
     Auth(Login),
     /// CLIENT SETNAME.
     SetName(Bytes),
-    /// A name for the connection that is none.
+    /// CLIENT SETNAME, or HELLO with SETNAME, with a name that isn't valid.
     BadName,
     /// CLIENT GETNAME.
     GetName,
@@ -36,13 +36,13 @@ pub enum ConnectionCommand {
     GetId,
     /// CLIENT LIST.
     List,
-    /// What is accepted and changes nothing: CLIENT SETINFO, SELECT 0 and UNWATCH.
+    /// A command that is accepted and changes nothing: CLIENT SETINFO, SELECT 0 and UNWATCH.
     Accept,
     /// SELECT of another database.
     OtherDatabase,
     /// ECHO.
     Echo(Bytes),
-    /// COMMAND and CONFIG GET, which list nothing.
+    /// COMMAND and CONFIG GET, whose replies are empty.
     ListNothing,
     /// RESET.
     Reset,
@@ -52,6 +52,6 @@ pub enum ConnectionCommand {
     Exec,
     /// DISCARD.
     Discard,
-    /// INFO, of the sections that the words behind it name.
+    /// INFO, of the sections that the words after it name.
     Info,
 }

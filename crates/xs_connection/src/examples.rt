@@ -1,29 +1,29 @@
-//! Examples of what the definitions say, with values from outside.
+//! Examples of the definitions, with expected values from outside.
 #![tactic(auto, unfolding(crate::proofs::Computing::example_functions))]
 
 ghost use Rattle.xs_connection.specs.Examples.{Telling, Lists, Standings, Strangers, Transactions, Unknowns};
 
-/// What is told, and what is accepted.
+/// What is reported, and what is accepted.
 pub fn telling()
     ensures { Telling }
 {}
 
-/// What a connection is told of itself.
+/// A connection in CLIENT LIST.
 pub fn lists()
     ensures { Lists }
 {}
 
-/// What a connection says of itself.
+/// What a connection states about itself.
 pub fn standings()
     ensures { Standings }
 {}
 
-/// What is answered before the password is given.
+/// Replies before the password is given.
 pub fn strangers()
     ensures { Strangers }
 {}
 
-/// What is answered between MULTI and EXEC.
+/// Replies between MULTI and EXEC.
 pub fn transactions()
     ensures { Transactions }
 {}

@@ -1,4 +1,4 @@
-//! The commands of a connection itself: what their words say, and what they are answered. No keyspace is asked.
+//! The commands of a connection itself: how their words are read, and their replies. They don't use the keyspace.
 #![tactic(auto)]
 
 pub mod command;

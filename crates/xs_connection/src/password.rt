@@ -6,7 +6,7 @@ use crate::command::Login;
 use std::marker::Model;
 use xs_bytes::Bytes;
 
-/// The password of a server. It is kept as long as the program runs. A contract sees it as the list of its bytes.
+/// The password of a server. It is stored as long as the program runs. A contract sees it as the list of its bytes.
 #[derive(Drop)]
 pub struct Password {
     text: &'static [u8],
@@ -21,14 +21,14 @@ impl Model for Password {
 }
 
 impl Password {
-    /// Keeps these bytes as a password.
+    /// Stores these bytes as a password.
     pub fn keep(text: Vec<u8>) -> Self
         ensures { result ≡ text.items }
     {
         Self { text: text.leak() }
     }
 
-    /// The same password once more. It takes no memory.
+    /// A second handle of the same password. It takes no memory.
     pub fn again(&self) -> Self
         ensures { result ≡ self.now }
     {
@@ -36,8 +36,8 @@ impl Password {
     }
 }
 
-/// Whether two passwords are the same. If they are as long, all bytes are compared, whatever the first difference is,
-/// so that the time tells nothing of it.
+/// Whether two passwords are the same. If their lengths are equal, all bytes are compared, so the time doesn't depend
+/// on where the first difference is.
 fn is_same(wanted: &[u8], given: &[u8]) -> bool
     ensures { result ≡ bytes_eq wanted.now given.now }
 {
@@ -51,7 +51,7 @@ fn is_same(wanted: &[u8], given: &[u8]) -> bool
     same
 }
 
-/// Whether it is the only user there is.
+/// Whether it is the only user, `default`. No user counts as this one.
 fn is_default(user: &Option<Bytes>) -> bool
     ensures { result ≡ is_default user.now }
 {
@@ -61,7 +61,7 @@ fn is_default(user: &Option<Bytes>) -> bool
     }
 }
 
-/// Whether it is the password that is wanted, if one is.
+/// Whether it is the password that is required. Any password is right if none is required.
 fn is_wanted(wanted: &Option<Password>, given: &Bytes) -> bool
     ensures { result ≡ is_wanted wanted.now given.now }
 {
@@ -78,7 +78,7 @@ pub fn is_right(wanted: &Option<Password>, login: &Login) -> bool
     is_default(&login.user) && is_wanted(wanted, &login.password)
 }
 
-/// Whether a password is given alone where none is wanted.
+/// Whether a password is given without a user though none is required.
 pub fn is_needless(wanted: &Option<Password>, user: &Option<Bytes>) -> bool
     ensures { result ≡ is_needless wanted.now user.now }
 {

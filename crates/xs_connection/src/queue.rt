@@ -1,4 +1,4 @@
-//! Requests that wait for EXEC, as far as there is room.
+//! Requests that wait for EXEC, within a limit.
 ghost use Rattle.std.specs.Prelude.{◌≡◌, ◌<◌, ◌≤◌, ◌++◌, ◌∷◌, [], if◌then◌else◌, MatchOption, MatchResult};
 ghost use Rattle.xs_connection.specs.QueueRoom.{size_of, has_room};
 
@@ -16,7 +16,7 @@ const MOST_BYTES: usize = 1_048_576;
 #[derive(Drop)]
 pub struct Queue {
     waiting: Waiting,
-    // How many bytes their words have.
+    // The number of bytes of their words.
     size: usize,
 }
 
@@ -31,7 +31,7 @@ impl Model for Queue {
     ghost invariant = { λ q. (q.size ≡ size_of_all q.waiting) × (q.size ≤ 1048576) };
 }
 
-/// How many bytes these words have, if that is no more than so many.
+/// The number of bytes of these words, if it is at most `most`.
 fn size_within(words: &[Bytes], most: usize) -> Option<usize>
     ensures { MatchOption result (most < size_of words.now) (λ size. (size ≡ size_of words.now) × (size ≤ most)) }
 {
@@ -49,7 +49,7 @@ impl Queue {
     ghost use Rattle.std.specs.Prelude.{◌≡◌, ◌++◌, ◌∷◌, [], length, if◌then◌else◌, MatchResult};
     ghost use Rattle.xs_connection.specs.QueueRoom.{has_room};
 
-    /// None waits. It takes no memory.
+    /// An empty queue. It takes no memory.
     pub fn new(alloc: Global) -> Self
         ensures { result ≡ [] }
     {
@@ -59,17 +59,17 @@ impl Queue {
         }
     }
 
-    /// How many wait.
+    /// The number of requests that wait.
     pub fn len(&self) -> usize
         ensures { result ≡ length self.now }
     {
         self.waiting.len()
     }
 
-    /// One more waits, if there is room for it. It says whether there was.
+    /// Appends a request if there is room for it. Returns whether there was.
     ///
     /// # Errors
-    /// Out of memory: none more does.
+    /// Out of memory; nothing is appended.
     pub fn push(&mut self, words: List<Bytes>) -> Result<bool, AllocError>
         ensures { MatchResult result
             (λ fits. (fits ≡ has_room self.old words)
@@ -87,7 +87,7 @@ impl Queue {
         Ok(true)
     }
 
-    /// Those that wait, in their order.
+    /// The requests that wait, in their order.
     pub fn into_waiting(self) -> Waiting
         ensures { result ≡ self }
     {

@@ -68,7 +68,7 @@ impl ConnectionName {
     }
 }
 
-/// Whether words may be asked before a password is given.
+/// Whether words may be sent before a password is given.
 #[tactic(auto, unfolding(xs_command::specs::Words::word))]
 pub(crate) fn is_greeting(words: &Words<'_>) -> bool
     ensures { result ≡ is_greeting (first_name words.now) }
@@ -103,7 +103,7 @@ fn number<'a>(words: &Words<'a>) -> Result<(Integer, Words<'a>), Fault>
     Ok((number, words))
 }
 
-/// The command, if no word is left, and else the fault.
+/// The command if no word is left, and else the fault.
 #[tactic(auto, unfolding(crate::specs::Reading::ending, xs_command::specs::Words::word))]
 pub(crate) fn end(
     words: &Words<'_>,
@@ -118,7 +118,7 @@ pub(crate) fn end(
     }
 }
 
-/// The command that words say.
+/// The command that the words spell.
 #[tactic(auto, unfolding(crate::specs::Read::connection_command))]
 pub fn read_connection_command(
     alloc: Global,
@@ -130,7 +130,7 @@ pub fn read_connection_command(
     read_named(alloc, ConnectionName::of(&first), &words)
 }
 
-/// What stands behind each name.
+/// Reads what follows each name.
 fn read_named(
     alloc: Global,
     name: Option<ConnectionName>,
@@ -213,7 +213,7 @@ fn read_hello(alloc: Global, words: &Words<'_>) -> Result<ConnectionCommand, Ref
     end(&words, Fault::Syntax, hello_with(options))
 }
 
-/// The name that is asked for, if one is, has to be a name.
+/// The command with these options. A name that is given has to be valid.
 fn hello_with(options: HelloCommand) -> ConnectionCommand
     ensures { result ≡ has_good_name options.name (ConnectionCommand.Hello options) }
 {

@@ -1,4 +1,4 @@
-//! The words behind CLIENT.
+//! The words after CLIENT.
 ghost use Rattle.std.specs.Prelude.{◌≡◌};
 ghost use Rattle.xs_command.specs.Words.{Gives};
 ghost use Rattle.xs_connection.specs.Client.{is_name, is_library_word, set_name, set_info, subcommand_of, client_named};
@@ -10,7 +10,7 @@ use std::alloc::Global;
 use xs_command::{Refusal, Word, Words};
 use xs_resp::Fault;
 
-/// What CLIENT is asked.
+/// The subcommands of CLIENT.
 #[derive(Clone, Copy, Debug, PartialEq, Eq)]
 pub(crate) enum Subcommand {
     SetName,
@@ -40,7 +40,7 @@ impl Subcommand {
     }
 }
 
-/// Whether a connection may have this name: it has no space and no control character.
+/// Whether a connection may have this name: it must have no space and no control character.
 pub(crate) fn is_name(text: &[u8]) -> bool
     ensures { result ≡ is_name text.now }
 {
@@ -78,7 +78,7 @@ fn read_set_name(alloc: Global, words: &Words<'_>) -> Result<ConnectionCommand, 
     end(&words, Fault::Arity, ConnectionCommand::SetName(name))
 }
 
-/// What a library tells of itself.
+/// Whether the word names a property that a library reports about itself.
 fn is_library_word(word: &Word<'_>) -> bool
     ensures { result ≡ is_library_word word.now }
 {

@@ -1,4 +1,4 @@
-//! What a connection has said of itself, and what it is answered itself.
+//! The state of a connection, and the replies of the connection itself.
 ghost use Rattle.std.specs.Prelude.{◌≡◌, ◌++◌, ◌∷◌, [], List, ℕ, Some, not, is_some, IfOk, OnOk, OnErr};
 ghost use Rattle.xs_resp.specs.declared.reply.Reply.TheVariants.{ErrorText, Array};
 ghost use Rattle.xs_resp.specs.Token as token;
@@ -36,23 +36,23 @@ const NOT_QUEUED: &[u8] = b"ERR Command not allowed inside a transaction";
 
 const BAD_NAME: &[u8] = b"ERR Client names cannot contain spaces, newlines or special characters.";
 
-/// The version that this server speaks like.
+/// The version of Redis that this server reports.
 pub const VERSION: &[u8] = b"7.0.15";
 
-/// What a connection has said of itself.
+/// The state of a connection.
 #[derive(Drop)]
 pub struct Standing {
     /// Its number.
     pub id: U63,
-    /// Its name; none if it is empty.
+    /// Its name. It has none if this is empty.
     pub name: Bytes,
-    /// Whether it may ask anything: it has given the password, or none is wanted.
+    /// Whether it may send any command: it has given the password, or none is required.
     pub is_allowed: bool,
-    /// What waits for EXEC.
+    /// The requests that wait for EXEC.
     pub transaction: Transaction,
 }
 
-/// Whether a command is heard between MULTI and EXEC.
+/// Whether a command is accepted between MULTI and EXEC.
 fn is_heard(command: &ConnectionCommand) -> bool
     ensures { result ≡ is_heard command.now }
 {
@@ -72,7 +72,7 @@ fn error(alloc: Global, text: &[u8]) -> Result<Reply, AllocError>
     Ok(Reply::ErrorText(Bytes::from_slice(alloc, text)?))
 }
 
-/// An array of no items.
+/// An empty array.
 #[tactic(auto, unfolding(xs_resp::specs::Whole::AreItems))]
 fn nothing(alloc: Global) -> Reply
     ensures { result ≡ Array (items_of []) }
@@ -80,7 +80,7 @@ fn nothing(alloc: Global) -> Reply
     Reply::Array(Replies::new(0, Tokens::new(alloc)))
 }
 
-/// What INFO is answered, if the command is INFO.
+/// The text of INFO, if the command is INFO.
 fn told_for<I: Inform>(
     alloc: Global,
     inform: &I,
@@ -101,7 +101,7 @@ fn push_pair(tokens: &mut Tokens, name: &[u8], value: &[u8]) -> Result<(), Alloc
     tokens.push_bulk(value)
 }
 
-/// What HELLO tells.
+/// The reply to HELLO.
 fn greeting(alloc: Global, id: U63) -> Result<Reply, AllocError>
     ensures { IfOk result (λ reply. reply ≡ Array (items_of (greeting id))) }
 {
@@ -120,7 +120,7 @@ fn greeting(alloc: Global, id: U63) -> Result<Reply, AllocError>
 }
 
 impl Standing {
-    /// A connection with this number that has said nothing.
+    /// A new connection with this number.
     pub fn new(alloc: Global, wanted: &Option<Password>, id: U63) -> Self
         ensures { result ≡ record {
           id = id;
@@ -137,7 +137,7 @@ impl Standing {
         }
     }
 
-    /// Answers words that are no command of the keyspace, if this password is wanted.
+    /// Answers words that aren't a command of the keyspace. `wanted` is the password that is required, if any.
     pub fn answer<I: Inform>(
         &mut self,
         alloc: Global,
@@ -153,7 +153,7 @@ impl Standing {
         }
     }
 
-    /// Answers words that are refused: nothing waits for EXEC any more.
+    /// Refuses a request with this reply: nothing waits for EXEC any more.
     pub fn refuse(&mut self, reply: Reply) -> Reply
         ensures reply { result ≡ reply }
         ensures after { self.new ≡ spoilt self.old }
@@ -162,7 +162,7 @@ impl Standing {
         reply
     }
 
-    /// Has the words of a command wait for EXEC.
+    /// Puts the words of a command into the queue for EXEC.
     pub fn enqueue(&mut self, alloc: Global, words: List<Bytes>) -> Reply
         ensures { IsQueued self.old words result self.new }
     {
@@ -172,7 +172,7 @@ impl Standing {
         }
     }
 
-    /// Answers words before the password is given: only a greeting is heard.
+    /// Answers words before the password is given: only a greeting is accepted.
     pub fn answer_stranger<I: Inform>(
         &mut self,
         alloc: Global,
@@ -191,7 +191,7 @@ impl Standing {
         }
     }
 
-    /// Answers words, unless memory runs out, which changes nothing.
+    /// Answers words. If memory runs out, nothing changes.
     fn try_answer<I: Inform>(
         &mut self,
         alloc: Global,
@@ -217,7 +217,7 @@ impl Standing {
         }
     }
 
-    /// Answers a command; INFO is answered this. Between MULTI and EXEC few are heard.
+    /// Answers a command; `told` is the text of INFO. Between MULTI and EXEC few commands are accepted.
     fn answer_command(
         &mut self,
         alloc: Global,
@@ -235,7 +235,7 @@ impl Standing {
         self.apply(alloc, wanted, told, command)
     }
 
-    /// Answers a command; INFO is answered this.
+    /// Answers a command; `told` is the text of INFO.
     fn apply(
         &mut self,
         alloc: Global,
@@ -273,7 +273,7 @@ impl Standing {
         }
     }
 
-    /// RESET: it has said nothing.
+    /// RESET: the connection is like new.
     fn reset(&mut self, alloc: Global, wanted: &Option<Password>)
         ensures { self.new ≡ as_new wanted.now self.old }
     {
@@ -292,7 +292,7 @@ impl Standing {
         Ok(Reply::Bulk(Bytes::from_slice(alloc, self.name.as_slice())?))
     }
 
-    /// This connection in a list of all.
+    /// The line of this connection in CLIENT LIST.
     fn line(&self, alloc: Global) -> Result<Bytes, AllocError>
         ensures { IfOk result (λ line. line ≡ client_line self.now) }
     {
@@ -361,7 +361,7 @@ impl Standing {
         self.greet(alloc, name)
     }
 
-    /// HELLO without AUTH, which only a connection may ask that is allowed.
+    /// HELLO without AUTH, which is only for a connection that is allowed.
     fn hello_alone(&mut self, alloc: Global, name: Option<Bytes>) -> Result<Reply, AllocError>
         ensures ok { IfOk result (λ reply. (reply, self.new) ≡ hello_alone self.old name) }
         ensures err { OnErr result (self.new ≡ self.old) }

@@ -1,4 +1,4 @@
-//! What waits between MULTI and EXEC.
+//! The requests between MULTI and EXEC.
 ghost use Rattle.std.specs.Prelude.{◌≡◌, ◌<◌, ◌∷◌, ℕ, List, [], length, IfOk, OnErr, MatchOption};
 ghost use Rattle.xs_connection.specs.Transaction.{is_queueing, spoiled, begun, queued, executed, discarded};
 ghost use Rattle.xs_connection.specs.Transaction.{released, released_of};
@@ -20,16 +20,16 @@ const NO_EXEC: &[u8] = b"ERR EXEC without MULTI";
 
 const NO_DISCARD: &[u8] = b"ERR DISCARD without MULTI";
 
-/// How far a transaction is.
+/// The state of a transaction.
 #[derive(Drop)]
 pub enum Transaction {
-    /// There is none.
+    /// There is no transaction.
     Closed,
-    /// MULTI was said. These requests wait for EXEC.
+    /// After MULTI. These requests wait for EXEC.
     Open(Queue),
-    /// MULTI was said, and a request behind it was refused.
+    /// After MULTI, and after a request that was refused.
     Spoiled,
-    /// EXEC was said. These requests are still to be asked.
+    /// After EXEC. These requests are still to be served.
     Released(Waiting),
 }
 
@@ -40,7 +40,7 @@ fn error(alloc: Global, text: &[u8]) -> Result<Reply, AllocError>
     Ok(Reply::ErrorText(Bytes::from_slice(alloc, text)?))
 }
 
-/// Requests that are still to be asked, if there are any.
+/// Requests that are still to be served, if there are any.
 fn released(waiting: Waiting) -> Transaction
     ensures { result ≡ released waiting }
 {
@@ -58,7 +58,7 @@ impl Transaction {
         matches!(self, Self::Open(_) | Self::Spoiled)
     }
 
-    /// A request was refused: nothing waits any more, and EXEC will say so.
+    /// A request was refused: nothing waits any more, and EXEC will report it.
     pub fn spoil(&mut self)
         ensures { self.new ≡ spoiled self.old }
     {
@@ -79,7 +79,7 @@ impl Transaction {
         Ok(Reply::Simple(Simple::Okay))
     }
 
-    /// A request waits.
+    /// Appends a request to those that wait.
     ///
     /// # Errors
     /// Out of memory, and nothing waits any more.
@@ -140,7 +140,7 @@ impl Transaction {
         Ok(Reply::Simple(Simple::Okay))
     }
 
-    /// The words of the request that is to be asked next, if EXEC has let some go.
+    /// The words of the request that is served next, if EXEC has released some.
     pub fn next(&self) -> Option<&List<Bytes>>
         ensures { MatchOption result (released_of self.now ≡ [])
             (λ words. (others : List (List (List ℕ))) × (self.now ≡ Transaction.Released (words.now ∷ others))) }

@@ -6,10 +6,10 @@ use std::alloc::{AllocError, Global};
 use xs_bytes::Bytes;
 use xs_command::Words;
 
-/// The most bytes of a name, and of the words behind it.
+/// The most bytes of a name, and of the words after it.
 const MOST: usize = 128;
 
-/// A digit of 16.
+/// A hexadecimal digit.
 fn hex_digit(value: u8) -> u8
     requires { value ≤ 15 }
     ensures { result ≡ hex_digit value }
@@ -21,7 +21,7 @@ fn hex_digit(value: u8) -> u8
     }
 }
 
-/// Appends a byte; a control byte as its number. A refusal may leave a part behind, here and below.
+/// Appends a byte; a control byte as its number. If memory runs out, a part may be appended, here and below.
 fn push_byte(text: &mut Vec<u8>, byte: u8) -> Result<(), AllocError>
     ensures { OnOk result (text.new.items ≡ text.old.items ++ escaped_byte byte) }
 {
@@ -50,7 +50,7 @@ fn push_quoted(text: &mut Vec<u8>, word: &[u8]) -> Result<(), AllocError>
     text.extend_from_slice(b"' ")
 }
 
-/// The first bytes, so many at most.
+/// The first bytes, at most `most`.
 fn first_bytes(bytes: &[u8], most: usize) -> &[u8]
     ensures { result.now ≡ take most bytes.now }
 {
@@ -60,7 +60,7 @@ fn first_bytes(bytes: &[u8], most: usize) -> &[u8]
     &bytes[..most]
 }
 
-/// Appends the words behind a name.
+/// Appends the words after a name.
 #[tactic(auto, unfolding(xs_command::specs::Words::word))]
 fn push_arguments(text: &mut Vec<u8>, words: &Words<'_>) -> Result<(), AllocError>
     ensures { OnOk result (text.new.items ≡ text.old.items ++ arguments 0 words.now) }

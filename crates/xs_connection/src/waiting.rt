@@ -23,7 +23,7 @@ impl Model for Waiting {
 impl Waiting {
     ghost use Rattle.std.specs.Prelude.{◌≡◌, ◌++◌, ◌∷◌, ℕ, List, [], length, MatchOption};
 
-    /// None. It takes no memory.
+    /// An empty list. It takes no memory.
     pub fn new(alloc: Global) -> Self
         ensures { result ≡ [] }
     {
@@ -32,17 +32,17 @@ impl Waiting {
         }
     }
 
-    /// How many wait.
+    /// The number of requests that wait.
     pub fn len(&self) -> usize
         ensures { result ≡ length self.now }
     {
         self.requests.len()
     }
 
-    /// One more waits.
+    /// Appends a request.
     ///
     /// # Errors
-    /// None more does.
+    /// Out of memory; nothing is appended.
     pub fn push(&mut self, words: List<Bytes>) -> Result<(), AllocError>
         ensures ok { OnOk result (self.new ≡ self.old ++ words ∷ []) }
         ensures err { OnErr result (self.new ≡ self.old) }

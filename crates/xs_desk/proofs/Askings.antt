@@ -1,4 +1,4 @@
--- What a lane takes and submits, step by step.
+-- How a lane takes answers and submits a call, step by step.
 use Rattle.std.specs.Prelude.{◌≡◌, List, [], ◌∷◌, ◌++◌, refl}
 use Rattle.std.proofs.Common.{sym, ◌∙◌, ap, append_assoc}
 use Rattle.std.proofs.lemmas.List.{append-nil}

@@ -1,4 +1,4 @@
--- That what was handed out is kept, turn by turn.
+-- What was handed out is kept, turn by turn.
 use Rattle.std.specs.Prelude.{◌≡◌, ◌⊎◌, ℕ, ◌+◌, ◌≤◌, List, [], ◌∷◌, ◌++◌, length, map, take, drop, slice_get, Some, Result, Ok, Err}
 use Rattle.std.specs.Prelude.{MatchResult, refl}
 use Rattle.std.proofs.Common.{sym, ◌∙◌, ap, subst, inl, inr, arith, length-append}
@@ -119,7 +119,7 @@ module _ {J : Type 0} (has : J → List Event → ℕ → Type 0) where
     handed = d.handed;
   }
 
-  -- what a turn has noted, whatever it answers
+  -- what a turn has noted, whatever it returns
   pub notes-anyhow : {C E : Type 0} (gives : C → ℕ → C → Type 0) (old : Desk) (clock : C) (before : J) (ends : List LaneEnd) (high : ℕ) (new : Desk) (later : C) (after : J) (others : List LaneEnd) (Z : Type 0) (r : Result ℕ E)
       → MatchResult r (λ n. NotesTurn has gives old clock before ends n high new later after others) (λ _. (n : ℕ) × NotesTurn has gives old clock before ends n high new later after others × Z)
       → (n : ℕ) × NotesTurn has gives old clock before ends n high new later after others

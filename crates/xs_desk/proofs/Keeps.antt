@@ -1,4 +1,4 @@
--- The rings stay the same through a turn, and so the ends that come back belong to the keeper's lanes.
+-- The rings stay the same through a turn, so the ends that come back belong to the keeper's lanes.
 use Rattle.std.specs.Prelude.{◌≡◌, ℕ, zero, suc, ◌+◌, ◌<◌, List, [], ◌∷◌, ◌++◌, length, map, get_or, slice_get, Some}
 use Rattle.std.specs.Prelude.{Result, MatchResult, refl}
 use Rattle.std.proofs.Common.{sym, ◌∙◌, ap, subst, inl, inr, arith}
@@ -68,7 +68,7 @@ ends-pop lanes all ends end are is = (
   are (length ends) end (ap (λ (xs : List Caller). slice_get xs (length ends)) is ∙ last-at ends end),
 )
 
--- where each client at its place kept its side
+-- if each client at its place kept its side
 pub sides-kept : {S : Type 0} (f : S → Caller) (js : List S) (clients ends : List Caller) → map f js ≡ clients → length ends ≡ length js
     → ((i : ℕ) (s : S) (e : Caller) → i < length js → KeepsSide (f (get_or js i s)) (get_or ends i e)) → KeepSides clients ends
 sides-kept f js clients ends is len each i e at =

@@ -8,7 +8,7 @@ use mathlib.Core.List.{IsPrefix}
 pub same_some : {X : Type 0} (x y : X) → Some x ≡ Some y → x ≡ y
 same_some x y e = cc
 
--- what stands in a list with one more at its end
+-- the elements of a list with one more at its end
 pub snoc-cases : {X : Type 0} (xs : List X) (y : X) (j : ℕ) (x : X) → slice_get (xs ++ y ∷ []) j ≡ Some x → ((slice_get xs j ≡ Some x)) ⊎ ((j ≡ length xs) × (x ≡ y))
 snoc-cases [] y zero x e = inr (refl, cc)
 snoc-cases [] y (suc j) x e = absurd (cc)
@@ -24,7 +24,7 @@ pub last-at : {X : Type 0} (xs : List X) (y : X) → slice_get (xs ++ y ∷ []) 
 last-at [] y = refl
 last-at (z ∷ zs) y = last-at zs y
 
--- what stands in a list after a write
+-- the elements of a list after a write
 pub set-cases : {X : Type 0} (xs : List X) (i j : ℕ) (x m : X) → slice_get (slice_set xs i x) j ≡ Some m → ((j ≡ i) × (m ≡ x)) ⊎ ((i ≢ j) × (slice_get xs j ≡ Some m))
 set-cases [] i j x m e = absurd (cc)
 set-cases (y ∷ ys) zero zero x m e = inl (refl, cc)
@@ -57,7 +57,7 @@ same-lists (x ∷ xs) (y ∷ ys) len each =
     let tail : xs ≡ ys = same-lists xs ys (omega (arith, len)) (λ i z e. each (suc i) z e) in
     cc
 
--- a beginning, and what becomes of it item by item
+-- a beginning of a list, with each element mapped
 pub prefix_map : {X Y : Type 0} (f : X → Y) (xs ys : List X) → IsPrefix xs ys → IsPrefix (map f xs) (map f ys)
 prefix_map f xs ys p = (map f p.0, sym (map-append f xs p.0) ∙ ap (map f) p.1)
 

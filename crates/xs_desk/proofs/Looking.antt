@@ -1,4 +1,4 @@
--- What a look at one lane does to the desk.
+-- How a look at one lane changes the desk.
 use Rattle.std.specs.Prelude.{◌≡◌, ◌⊎◌, ℕ, ◌+◌, ◌<◌, List, length, map, slice_get, slice_set, get_or, Some, refl}
 use Rattle.std.proofs.Common.{sym, ◌∙◌, ap, subst, inl, inr}
 use Rattle.std.proofs.Math.Seq.{map-set_same}

@@ -70,7 +70,7 @@ module _ {J : Type 0} (has : J → List Event → ℕ → Type 0) where
     unfolding turns-none
     turn-none = record { turns = turns-none gives old clock; notes = notes-none before old.keyspace; handed = inl refl }
 
-    -- a lane was passed over
+    -- a lane was skipped
     pub turn-on : (n high : ℕ) (new : Desk) (later : C) (after : J) (others : List LaneEnd) (more : ℕ) → NotesTurn has gives old clock before ends n high new later after others → high ≤ more
         → NotesTurn has gives old clock before ends n more new later after others
     unfolding turns-on

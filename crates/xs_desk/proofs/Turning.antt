@@ -31,7 +31,7 @@ module _ {C : Type 0} (gives : C → ℕ → C → Type 0) (old : Desk) (clock :
   unfoldable pub turns-none : Turns gives old clock 0 0 old clock
   turns-none = record { calls = []; served = refl; in_order = omega arith; moments = refl; counted = refl }
 
-  -- a lane was passed over
+  -- a lane was skipped
   unfoldable pub turns-on : (n high : ℕ) (new : Desk) (later : C) (more : ℕ) → Turns gives old clock n high new later → high ≤ more → Turns gives old clock n more new later
   turns-on n high new later more t le = record { calls = t.calls; served = t.served; in_order = ascend-more 0 t.calls high more t.in_order le; moments = t.moments; counted = t.counted }
 
@@ -48,7 +48,7 @@ module _ {C : Type 0} (gives : C → ℕ → C → Type 0) (old : Desk) (clock :
   pub turns-few : (n high : ℕ) (new : Desk) (later : C) → Turns gives old clock n high new later → n ≤ high
   turns-few n high new later t = omega (arith, t.counted, ascend-length 0 t.calls high t.in_order)
 
-  -- whatever a turn answers, it has served some calls
+  -- whatever a turn returns, it has served some calls
   pub turns-anyhow : {E : Type 0} (high : ℕ) (new : Desk) (later : C) (Z : Type 0) (r : Result ℕ E)
       → MatchResult r (λ n. Turns gives old clock n high new later) (λ _. (n : ℕ) × Turns gives old clock n high new later × Z) → (n : ℕ) × Turns gives old clock n high new later
   turns-anyhow high new later Z (Ok n) t = (n, t)

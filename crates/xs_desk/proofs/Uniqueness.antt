@@ -1,4 +1,4 @@
--- A desk has one history at most: an answer of a lane tells its place.
+-- A desk has at most one history: an answer of a lane contains its place.
 use Rattle.std.specs.Prelude.{◌≡◌, ℕ, zero, suc, ◌<◌, ◌==◌, true, false, List, [], ◌∷◌, length, map, slice_get, Some}
 use Rattle.std.specs.Prelude.{All, if◌then◌else◌, refl}
 use Rattle.std.proofs.Common.{sym, ◌∙◌, ap, subst, arith}
@@ -24,7 +24,7 @@ same-call : (one other : ServedCall) → one.lane ≡ other.lane → one.command
 same-call one other lane command answer =
     ap (λ (x : ℕ). made x one.command one.answer) lane ∙ ap (λ (x : Command). made other.lane x one.answer) command ∙ ap (λ (x : Answer). made other.lane other.command x) answer
 
--- a call stands among the calls of its lane
+-- a call is among the calls of its lane
 in-its-lane : (calls : List ServedCall) (j : ℕ) (call : ServedCall) → slice_get calls j ≡ Some call → (i : ℕ) × (slice_get (of_lane call.lane calls) i ≡ Some call)
 in-its-lane [] j call e = absurd (cc)
 in-its-lane (x ∷ xs) zero call e =
@@ -41,7 +41,7 @@ first-or-later : (k : ℕ) (x : ServedCall) (xs : List ServedCall) (i : ℕ) (ca
 first-or-later k x xs zero call is later at = (0, at, ap (λ (y : ServedCall). y.lane) (sym (same_some x call at)) ∙ is)
 first-or-later k x xs (suc i) call is later at = let r = later i at in (suc r.0, r.1, r.2)
 
--- and each of these stands among all calls
+-- and each of these is among all calls
 among-all : (k : ℕ) (calls : List ServedCall) (i : ℕ) (call : ServedCall) → slice_get (of_lane k calls) i ≡ Some call → (j : ℕ) × (slice_get calls j ≡ Some call) × (call.lane ≡ k)
 among-all k [] i call e = absurd (cc)
 among-all k (x ∷ xs) i call e =

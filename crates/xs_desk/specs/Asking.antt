@@ -1,11 +1,11 @@
--- What a lane does for one command.
+-- The steps of a lane for one command.
 use Rattle.std.specs.Prelude.{◌≡◌, ℕ, ◌⊎◌, Bool, List, [], ◌∷◌, ◌++◌, length}
 use Rattle.xs_resp.specs.declared.reply.Reply.{Reply}
 use Rattle.xs_command.specs.declared.command.Command.{Command}
 use Rattle.xs_desk.specs.declared.answer.Answer.{Answer}
 use Rattle.xs_desk.specs.Callers.{Caller}
 
--- a lane: its client, and whether it has said that the keeper is gone
+-- a lane: its client, and whether it has reported that the keeper is gone
 pub record Asker : Type 0 where
   pub client : Caller
   pub gone : Bool
@@ -19,7 +19,7 @@ abbrev pub Submits : Caller → Command → Caller → Type 0
 Submits old command new =
     (older : List Answer) × (new ≡ record old { submitted = old.submitted ++ command ∷ []; taken = old.taken ++ older })
 
--- some answers were taken, the last of which bears the ticket and the reply
+-- some answers were taken, the last of which has the ticket and the reply
 abbrev pub Receives : Caller → ℕ → Reply → Caller → Type 0
 Receives old ticket reply new =
     (older : List Answer) × (last : Answer) × (new ≡ record old { taken = old.taken ++ older ++ last ∷ [] })

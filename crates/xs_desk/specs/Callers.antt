@@ -13,8 +13,8 @@ use Rattle.xs_desk.specs.Calls.{asked_by}
 use Rattle.xs_desk.specs.History.{Ring, LaneOf}
 use Rattle.xs_desk.specs.Rings.{producer_ring, consumer_ring}
 
--- a client: the number of its lane, the commands submitted, the answers taken, the rings of both, and how many places
--- each has
+-- a client: the number of its lane, the commands submitted, the answers taken, the rings of both, and the number of
+-- places of each ring
 pub record Caller : Type 0 where
   pub lane : ℕ
   pub submitted : List Command

@@ -1,4 +1,4 @@
--- What the two sides of each lane tell when a desk is closed, and why it isn't.
+-- The summaries of the lanes of a desk that is closed, and why one isn't closed.
 use Rattle.std.specs.Prelude.{◌≡◌, ℕ, ◌+◌, ◌<◌, List, length, slice_get, Some}
 use mathlib.Core.List.{IsPrefix}
 use Rattle.xs_desk.specs.declared.closing.CloseError.{CloseError}

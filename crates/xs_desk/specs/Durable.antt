@@ -17,7 +17,7 @@ pub record AreMarked (marked : List Call) (calls : List ServedCall) : Type 0 whe
   pub answers : replay.answers_of marked ≡ replies_of calls
 
 module _ {J : Type 0} (has : J → List Event → ℕ → Type 0) where
-  -- calls were noted, or left out since they changed nothing
+  -- calls were noted, or left out because they changed nothing
   pub record NotesAll (before : J) (calls : List ServedCall) (old new : Content) (later : J) : Type 0 where
     pub marked : List Call
     pub marks : AreMarked marked calls

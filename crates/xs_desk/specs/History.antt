@@ -11,7 +11,7 @@ use Rattle.xs_keys.specs.Content.{Content}
 use Rattle.xs_keys.specs.Headline.{RunsOn}
 use Rattle.xs_desk.specs.declared.answer.Answer.{Answer}
 
--- a call that was served: the number of its lane, what was asked, and what was answered
+-- a call that was served: the number of its lane, its command, and its answer
 pub record ServedCall : Type 0 where
   pub lane : ℕ
   pub command : Command
@@ -31,8 +31,7 @@ pub record LaneOf : Type 0 where
   pub calls : Ring
   pub answers : Ring
 
--- a desk as its keeper knows it: the lanes, what the keyspace holds, the next place, and what the keyspace held at the
--- start
+-- a desk as its keeper knows it: the lanes, the content of the keyspace, the next place, and the content at the start
 pub record Desk : Type 0 where
   pub lanes : List LaneOf
   pub keyspace : Content
@@ -49,7 +48,7 @@ commands_of calls = map (λ call. call.command) calls
 abbrev pub answers_of : List ServedCall → List Answer
 answers_of calls = map (λ call. call.answer) calls
 
--- each command at the moment that its answer tells
+-- each command at the moment in its answer
 abbrev pub events_of : List ServedCall → List Event
 events_of calls = map (λ call. (call.answer.moment, call.command)) calls
 
@@ -60,9 +59,9 @@ replies_of calls = map (λ call. call.answer.reply) calls
 abbrev pub CountUp : List ℕ → Type 0
 CountUp numbers = (i n : ℕ) → slice_get numbers i ≡ Some n → n ≡ i
 
--- The places are 0, 1, 2, .. over the whole desk, and the tickets are so in each lane. What was taken from a lane and
--- sent to it are its calls of the history, in their order. Each command is well formed. The calls at their moments are
--- a run from what the keyspace held at the start, which gave these replies and left what it holds.
+-- The places are 0, 1, 2, .. over the whole desk, and the tickets are 0, 1, 2, .. in each lane. What was taken from a
+-- lane and sent to it are its calls in the history, in their order. Each command is well formed. The calls at their
+-- moments are a run from the content at the start, which gave these replies and left the present content.
 pub record IsHistory (history : List ServedCall) (desk : Desk) : Type 0 where
   pub places : CountUp (map (λ call. call.answer.place) history)
   pub tickets : (k : ℕ) → CountUp (map (λ call. call.answer.ticket) (of_lane k history))

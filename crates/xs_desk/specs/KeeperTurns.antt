@@ -1,4 +1,4 @@
--- What one call, and one turn, make of a desk.
+-- How one call, and one turn, change a desk.
 use Rattle.std.specs.Prelude.{◌≡◌, ℕ, ◌+◌, ◌≤◌, List, [], ◌∷◌, ◌++◌, length, slice_get, slice_set, Some}
 use Rattle.xs_command.specs.WellFormed.{IsWellFormed}
 use Rattle.xs_keys.specs.Step.{Step}
@@ -9,9 +9,9 @@ abbrev pub with_call : LaneOf → ServedCall → LaneOf
 with_call lane call =
     record lane { popped = lane.popped ++ call.command ∷ []; sent = lane.sent ++ call.answer ∷ [] }
 
--- Its command is well formed, is taken from its lane and applied to the keyspace at the moment told, and the answer is
--- sent to the same lane: with the reply, the number of the answers sent there before as ticket, and the next place of
--- the desk
+-- Its command is well formed, is taken from its lane and applied to the keyspace at the moment in the answer, and the
+-- answer is sent to the same lane: with the reply, with the number of the answers sent there before as its ticket, and
+-- with the next place of the desk
 pub record ServesCall (old : Desk) (call : ServedCall) (new : Desk) : Type 0 where
   pub lane : LaneOf
   pub here : slice_get old.lanes call.lane ≡ Some lane
@@ -39,8 +39,8 @@ abbrev pub LanesAscend : ℕ → List ServedCall → ℕ → Type 0
 LanesAscend low [] high = low ≤ high
 LanesAscend low (call ∷ calls) high = (low ≤ call.lane) × LanesAscend (call.lane + 1) calls high
 
--- so many calls were served, at most one of each lane below `high`, in the order of the lanes, and the clock was
--- asked once for each
+-- this many calls were served, at most one of each lane below `high`, in the order of the lanes, and the clock was read
+-- once for each
 pub record Turns
     {C : Type 0} (gives : C → ℕ → C → Type 0) (old : Desk) (clock : C) (count high : ℕ) (new : Desk) (later : C)
     : Type 0 where
@@ -50,8 +50,8 @@ pub record Turns
   pub moments : TellsMoments gives clock calls later
   pub counted : count ≡ length calls
 
--- A turn, by whose calls the history of the desk goes on: the calls served before are its history as it was, and with
--- the calls of the turn behind them they are its history as it is, from the same start.
+-- A turn that extends the history of the desk by its calls: the calls served before are the history before it, and with
+-- the calls of the turn after them they are the history after it, from the same start.
 pub record HistoryGoesOn
     {C : Type 0} (gives : C → ℕ → C → Type 0) (old : Desk) (clock : C) (count high : ℕ) (new : Desk) (later : C)
     : Type 0 where
@@ -61,6 +61,6 @@ pub record HistoryGoesOn
   pub new_is : IsHistory (before ++ turns.calls) new
   pub start_is : new.start ≡ old.start
 
--- no lane has more answers than there were places
+-- no lane has more answers than places were given
 abbrev pub HasPlaces : Desk → Type 0
 HasPlaces desk = (k : ℕ) (lane : LaneOf) → slice_get desk.lanes k ≡ Some lane → length lane.sent ≤ desk.place

@@ -35,7 +35,7 @@ desk_of lane_ends keyspace place start =
 abbrev pub handed_out : LaneEnd → List Answer
 handed_out lane_end = sent lane_end.answers.ring
 
--- what a look at a lane starts from, or leaves
+-- the state before or after a look at a lane
 pub record Scene (C J : Type 0) : Type 0 where
   pub lane : LaneOf
   pub handed : List Answer
@@ -71,7 +71,7 @@ pub record Answers
   pub noted : Notes has old.journal (answer.moment, command) old.keyspace new.keyspace new.journal
   pub handed_is : (new.handed ≡ old.handed) ⊎ KeepsAtOnce has
 
--- what came of a look: nothing has changed, or one call was answered; or no further place is left
+-- the result of a look: nothing has changed, or one call was answered; or no further place is left
 abbrev pub Looks : {C J : Type 0} → (C → ℕ → C → Type 0) → (J → List Event → ℕ → Type 0) → Look → Scene C J → Scene C J
     → Type 0
 Looks gives has Idle old new = new ≡ old

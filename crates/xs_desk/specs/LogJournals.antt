@@ -4,8 +4,8 @@ use Rattle.xs_keys.specs.Event.{Event}
 use Rattle.xs_keys.specs.Content.{Content}
 use Rattle.xs_replay.specs.After.{contents_after}
 
--- a log, whether nothing more may be asked of it, what the keyspace held before the first event of the log, and before
--- the first one of this life
+-- a log, whether it must not be used any more, the content of the keyspace before the first event of the log, and the
+-- content before the first event of this life
 pub record Logging (L : Type 0) : Type 0 where
   pub log : L
   pub failed : Bool
@@ -19,8 +19,8 @@ module _ {L : Type 0} (has : L → List Event → ℕ → Type 0) where
     pub content_is : content ≡ contents_after first past
     pub log_has : has log past (length past)
 
-  -- Behind a past, which goes on from a first content and has left what the keyspace held at the start, a log has the
-  -- first of these events: all of them, unless it has failed.
+  -- After a past, which goes on from a first content and leaves the content at the start, a log has the first of these
+  -- events: all of them, unless it has failed.
   pub record HasEvents
       (log : L) (failed : Bool) (first start : Content) (events : List Event) (kept : ℕ)
       : Type 0 where

@@ -9,7 +9,7 @@ abbrev pub event_if : Bool → Event → List Event
 event_if in_log event = if in_log then event ∷ [] else []
 
 module _ {J : Type 0} (has : J → List Event → ℕ → Type 0) where
-  -- an event was noted, or left out since it changed nothing
+  -- an event was noted, or left out because it changed nothing
   pub record Notes (before : J) (event : Event) (old new : Content) (later : J) : Type 0 where
     pub in_log : Bool
     pub rule : KeepsTheRule in_log old event new

@@ -5,7 +5,7 @@ use Rattle.xs_desk.specs.declared.opening.DeskError.TheVariants.{Lanes, Depth, M
 use Rattle.xs_desk.specs.History.{LaneOf}
 use Rattle.xs_desk.specs.Callers.{Caller, IsSide}
 
--- lane k, which nobody has used yet
+-- lane k, which hasn't been used yet
 pub record IsNewLane (k depth : ℕ) (lane : LaneOf) (client : Caller) : Type 0 where
   pub popped : lane.popped ≡ []
   pub sent : lane.sent ≡ []
@@ -16,20 +16,20 @@ pub record IsNewLane (k depth : ℕ) (lane : LaneOf) (client : Caller) : Type 0 
   pub answer_depth_is : client.answer_depth ≡ depth
   pub side : IsSide lane client
 
--- lanes from number k on, which nobody has used yet, and their clients
+-- lanes from number k on, which haven't been used yet, and their clients
 abbrev pub AreNew : ℕ → ℕ → List LaneOf → List Caller → Type 0
 AreNew k depth [] [] = Unit {0}
 AreNew k depth (lane ∷ lanes) (client ∷ clients) = IsNewLane k depth lane client × AreNew (k + 1) depth lanes clients
 AreNew k depth _ _ = ⊥
 
--- the numbers of lanes that a desk with at most so many may have, and the numbers of places
+-- the numbers of lanes that a desk with at most this many may have, and the numbers of places
 abbrev pub IsLaneCount : ℕ → ℕ → Type 0
 IsLaneCount most n = (0 < n) × (n ≤ most)
 
 abbrev pub IsDepth : ℕ → Type 0
 IsDepth depth = (0 < depth) × (depth < 65537)
 
--- the lanes are too many or none; else the places are; else memory ran out
+-- there are too many lanes or none; else too many places or none; else memory ran out
 abbrev pub IsDeskError : ℕ → ℕ → ℕ → DeskError → Type 0
 IsDeskError most n depth Lanes = (n ≡ 0) ⊎ (most < n)
 IsDeskError most n depth Depth = IsLaneCount most n × ((depth ≡ 0) ⊎ (65536 < depth))

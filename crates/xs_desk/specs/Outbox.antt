@@ -1,4 +1,4 @@
--- The answers of a lane that were given: those that were sent through its ring, and behind them those that are held
+-- The answers of a lane that were given: those that were sent through its ring, and after them those that are held
 -- back.
 use Rattle.std.specs.Prelude.{◌≡◌, ◌≤◌, ◌<◌, ◌⊎◌, Bool, false, List, [], ◌++◌, length}
 use Rattle.std.specs.VecDeque.{deque_len, deque_capacity}
@@ -19,7 +19,7 @@ pub record HasRoom (holds_back : Bool) (outbox : Outbox) : Type 0 where
   pub free : length outbox.held_back.items < known_free outbox.ring
   pub place : HasPlace holds_back outbox
 
--- the ring has no room behind what is held back, or nothing more can be held back
+-- the ring has no room after what is held back, or nothing more can be held back
 abbrev pub IsFull : Outbox → Type 0
 IsFull outbox =
     (known_free outbox.ring ≤ length outbox.held_back.items)

@@ -8,12 +8,12 @@ use std::sync::Wait;
 use xs_keys::{Clock, Keyspace};
 use xs_resp::Reply;
 
-/// A keyspace that is asked at the moments of a clock. It is never gone.
+/// A keyspace to which commands are applied at the moments of a clock. It is never gone.
 #[derive(Drop)]
 pub struct Alone<C: Clock + Drop> {
-    /// What is asked.
+    /// The keyspace.
     pub keyspace: Keyspace,
-    /// What tells the moment of each call.
+    /// The clock that gives the moment of each call.
     pub clock: C,
 }
 

@@ -1,12 +1,12 @@
-//! Calls that wait: reads with BLOCK that would be answered with the null array. Such a call stays in its ring, and
-//! the keeper looks at it again once a call was served that may change its answer, once its time is over, or once its
-//! client says that it needn't wait. No promise rests on this file: a look at a lane finds out itself whether its next
-//! call may wait (`lane_end.rt`).
+//! Calls that wait: reads with BLOCK that would be answered with the null array. Such a call stays in its ring, and the
+//! keeper looks at it again once a call was served that may change its answer, once its time is over, or once its
+//! client reports that it needn't wait. No contract depends on this file: a look at a lane determines itself whether
+//! its next call may wait (`lane_end.rt`).
 //!
 //! Calls that are due are looked at before all others, each in a turn of its own, in the order in which they began to
-//! wait: so the longest-waiting gets what has come, and nobody overtakes it. Once one finds nothing, those that read
-//! the same keys by the same group aren't looked at: they would find nothing either. A turn that serves what others
-//! wait for is cut short there, and is resumed behind them.
+//! wait. So the call that has waited longest gets what has come, and no other overtakes it. Once one finds nothing,
+//! those that read the same keys by the same group aren't looked at: they would find nothing either. A turn that serves
+//! a call for which others wait ends there, and is resumed after them.
 use crate::lane_set::LaneSet;
 use std::alloc::{AllocError, Global};
 use std::hash::{DefaultHasher, Hasher};
@@ -14,13 +14,13 @@ use std::time::{Clock, Duration, Instant};
 use xs_bytes::Bytes;
 use xs_command::{Command, ReadGroupCommand};
 
-/// How long a call still waits whose client has left.
+/// How long a call whose client has left still waits, in milliseconds.
 const LEFT_MILLIS: u64 = 1000;
 
-/// What a call waits for.
+/// What a call waits for, and how long.
 #[derive(Clone, Copy, Debug, PartialEq, Eq)]
 pub(crate) struct Wish {
-    /// How long it waits, in milliseconds; 0 is without end.
+    /// How long it waits, in milliseconds; 0 is without limit.
     pub millis: u64,
     /// The keys that it reads, by their bits.
     pub keys: u64,
@@ -28,10 +28,10 @@ pub(crate) struct Wish {
     pub source: u64,
 }
 
-/// Until when a call waits.
+/// The end of a wait.
 #[derive(Clone, Copy, Debug, PartialEq, Eq)]
 enum Until {
-    /// For so many milliseconds from when the clock is read next.
+    /// This many milliseconds after the clock is read next.
     Fresh(u64),
     At(Instant),
     Forever,
@@ -41,7 +41,7 @@ enum Until {
 #[derive(Clone, Copy, Debug, PartialEq, Eq)]
 enum State {
     Waits,
-    /// Something has changed that it waits for.
+    /// Something that it waits for has changed.
     Due,
     /// Its time is over.
     Over,
@@ -68,7 +68,7 @@ pub(crate) struct DueCall {
 /// All calls that wait.
 #[derive(Drop)]
 pub(crate) struct BlockedCalls {
-    // In the order in which they began to wait. The room for all lanes is made before.
+    // In the order in which they began to wait. The room for all lanes is made at the start.
     calls: Vec<BlockedCall>,
     lanes: LaneSet,
     // The first of them that may have to be looked at.
@@ -81,7 +81,7 @@ pub(crate) struct BlockedCalls {
     resume_at: usize,
 }
 
-/// Takes a name into a hash, with its length, so that two names aren't taken for two others.
+/// Adds a name to a hash, with its length, so two names aren't taken for two others.
 fn hash_name(hasher: &mut DefaultHasher, name: &Bytes) {
     hasher.write_usize(name.as_slice().len());
     hasher.write(name.as_slice());
@@ -94,7 +94,7 @@ fn bit_of_key(key: &Bytes) -> u64 {
     1u64.wrapping_shl((hasher.finish() % 64) as u32)
 }
 
-/// What a read waits for, for so many milliseconds.
+/// What a read waits for, during `millis` milliseconds.
 pub(crate) fn wish_of(read: &ReadGroupCommand, millis: u64) -> Wish {
     let mut keys = 0;
     let mut source = DefaultHasher::new();
@@ -110,8 +110,8 @@ pub(crate) fn wish_of(read: &ReadGroupCommand, millis: u64) -> Wish {
     }
 }
 
-/// The keys, by their bits, of which a command may change what a read of new entries that found none is answered: it
-/// adds an entry, or the key or its group goes.
+/// The keys, by their bits, for which a command may change the answer to a read of new entries that found none: it adds
+/// an entry, or removes the key or its group.
 pub(crate) fn keys_touched(command: &Command) -> u64 {
     match command {
         Command::Add(add) => bit_of_key(&add.key),
@@ -136,7 +136,7 @@ fn earlier(one: Option<Instant>, other: Instant) -> Option<Instant> {
 }
 
 impl BlockedCall {
-    /// Begins its time, if it is fresh, and ends its wait if that time is over. It says until when it waits.
+    /// Begins its time, if it is fresh, and ends its wait if that time is over. Returns the end of its wait.
     fn see_clock(&mut self, now: Instant) -> Option<Instant> {
         if let Until::Fresh(millis) = self.until {
             self.until = match now.checked_add(Duration::from_millis(millis)) {
@@ -155,7 +155,7 @@ impl BlockedCall {
 }
 
 impl BlockedCalls {
-    /// No call waits. There is room for one of each lane.
+    /// No call waits. There is room for one call of each lane.
     pub fn new(alloc: Global, lanes: usize) -> Result<BlockedCalls, AllocError> {
         Ok(BlockedCalls {
             calls: Vec::with_capacity(alloc, lanes)?,
@@ -167,7 +167,7 @@ impl BlockedCalls {
         })
     }
 
-    /// How many calls wait.
+    /// The number of calls that wait.
     pub fn len(&self) -> usize {
         self.calls.len()
     }
@@ -182,8 +182,7 @@ impl BlockedCalls {
         self.lanes.has(lane)
     }
 
-    /// A look has found that the call of this lane, which doesn't wait yet, may wait. It says whether it does so from
-    /// now on.
+    /// A look has found that the call of this lane, which doesn't wait yet, may wait. Returns whether it waits now.
     pub fn begin(&mut self, lane: usize, wish: Wish) -> bool {
         let call = BlockedCall {
             lane,
@@ -200,7 +199,8 @@ impl BlockedCalls {
         true
     }
 
-    /// A look has found that a call that waits, with this wish, still finds nothing: nor do those of the same source.
+    /// A look has found that a call that waits, with this wish, still finds nothing. Those with the same source find
+    /// nothing either.
     pub fn found_nothing(&mut self, wish: Wish) {
         for call in self.calls.iter_mut() {
             if call.source == wish.source && call.state == State::Due {
@@ -209,8 +209,8 @@ impl BlockedCalls {
         }
     }
 
-    /// A call of this lane was served, which touched these keys. It answers whether a call is due now, so that the turn
-    /// is cut short, and goes on at the next lane later.
+    /// A call of this lane was served, which touched these keys. Returns whether a call is due now, so the turn ends,
+    /// to be resumed at the next lane later.
     pub fn served(&mut self, lane: usize, touched: u64, next: usize) -> bool {
         if self.calls.is_empty() {
             return false;
@@ -281,7 +281,7 @@ impl BlockedCalls {
         None
     }
 
-    /// At which lane a turn begins: 0, or behind the one at which the last one was cut short.
+    /// The lane at which a turn begins: 0, or the one at which the last turn is to be resumed.
     pub fn take_start(&mut self) -> usize {
         let start = self.resume_at;
         self.resume_at = 0;
@@ -297,7 +297,7 @@ impl BlockedCalls {
         }
     }
 
-    /// Ends the waits whose time is over; if the clock can't be read, all of them.
+    /// Ends the waits whose time is over, or all waits if the clock can't be read.
     pub fn read_clock<S: Clock>(&mut self, system: &S) {
         if self.calls.is_empty() {
             return;
@@ -331,7 +331,7 @@ impl BlockedCalls {
         }
     }
 
-    /// The client of this lane, whose call is due, has left: those behind it come first, and its wait ends soon.
+    /// The client of this lane, whose call is due, has left: the calls after it come first, and its wait ends soon.
     pub fn postpone<S: Clock>(&mut self, system: &S, lane: usize) {
         let end = match Instant::now(system) {
             Ok(now) => now.checked_add(Duration::from_millis(LEFT_MILLIS)),
@@ -352,7 +352,7 @@ impl BlockedCalls {
         self.next_end = earlier(self.next_end, end);
     }
 
-    /// When the clock has to be read again, if a call waits.
+    /// The moment at which the clock has to be read again, if a call waits.
     pub fn next_end(&self) -> Option<Instant> {
         if self.calls.is_empty() {
             return None;

@@ -1,27 +1,27 @@
-//! How fast calls follow one another. No promise rests on it.
+//! How fast calls follow one another. No contract depends on it.
 use xs_stream::Moment;
 
-/// A batch of calls is fast if it takes at most so many milliseconds.
+/// A batch of calls is fast if it takes at most this many milliseconds.
 const NEAR: u64 = 2;
 
-/// So many calls in a row have to come in fast batches, once a batch has been slow.
+/// This many calls in a row have to come in fast batches after a batch has been slow.
 const CALLS: u32 = 16;
 
 /// How fast the calls of one side follow one another, by their moments.
 #[derive(Clone, Copy)]
 pub(crate) struct CallRate {
-    // How many calls make a batch.
+    // The number of calls in a batch.
     batch: u32,
-    // Calls since the last whole batch.
+    // Calls since the last complete batch.
     calls: u32,
-    // The moment of the last call of the last whole batch.
+    // The moment of the last call of the last complete batch.
     last: Option<Moment>,
     // Calls in a row that came in fast batches, at most CALLS.
     fast: u32,
 }
 
 impl CallRate {
-    /// Calls are taken to follow fast until a batch of so many has been slow.
+    /// Calls count as fast until a batch of `batch` calls has been slow.
     pub fn new(batch: u32) -> CallRate {
         CallRate {
             batch,

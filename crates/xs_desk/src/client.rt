@@ -12,22 +12,22 @@ use std::sync::{Arc, Wait};
 use std::time::{Clock, Duration};
 use xs_command::Command;
 
-/// There is no room for the command, or no further ticket. It hands the command back.
+/// There is no room for the command, or no further ticket. It contains the command.
 #[derive(Debug, Drop)]
 pub struct Full(pub Command);
 
-/// The client of a lane. Contracts see the number of the lane, the commands submitted, the answers taken, which rings
-/// they go through, and how many places these have.
+/// The client of a lane. Contracts see the number of the lane, the commands submitted, the answers taken, their rings,
+/// and the number of places of these.
 #[derive(Drop)]
 pub struct Client {
     calls: Producer<Call, Global, Formed>,
     answers: Consumer<Answer>,
     lane: usize,
     ticket: u64,
-    // Tells the keeper.
+    // Notifies the keeper.
     registration: Registration,
     backoff: Backoff,
-    // Set once nobody is served any more.
+    // Set once no call is served any more.
     gone: Arc<AtomicBool>,
     wants_words: bool,
 }
@@ -46,7 +46,7 @@ impl Model for Client {
     ghost invariant = { λ c. c.ticket ≡ length (sent c.calls) };
 }
 
-/// What is left of a client that makes no further call. Contracts see what they see of the client.
+/// What is left of a client that makes no further call. Contracts see the same as of the client.
 #[derive(Drop)]
 pub struct Ended {
     pub(crate) calls: Producer<Call, Global, Formed>,
@@ -96,13 +96,13 @@ impl Client {
         }
     }
 
-    /// Whether a call has to bring the words that say its command, since the desk has a log.
+    /// Whether a call has to contain the words that spell its command, because the desk has a log.
     pub fn wants_words(&self) -> bool {
         self.wants_words
     }
 
-    /// Submits a command, and wakes the keeper if it sleeps. It answers the ticket: 0, 1, 2, .. in this lane. It takes
-    /// no memory.
+    /// Submits a command, and wakes the keeper if it sleeps. Returns the ticket: 0, 1, 2, .. in this lane. It takes no
+    /// memory.
     ///
     /// # Errors
     /// `Full`, with the command. Nothing has changed. A lane has at most 2^64 - 1 calls, and is full from then on.
@@ -124,7 +124,7 @@ impl Client {
         }
     }
 
-    /// Submits a call as `submit` does its command. It gives the call back if there is no room for it.
+    /// Submits a call, like `submit`. Returns the call if there is no room for it.
     pub fn submit_call(&mut self, call: Call) -> Result<u64, Call>
         requires { IsFormed call }
         ensures ok { IfOk result (λ ticket. (ticket ≡ length self.old.submitted)
@@ -160,42 +160,42 @@ impl Client {
         }
         let answer = self.answers.pop().ok()?;
         self.backoff.found(answer.moment);
-        // The keeper passes over a call only while the ring of answers is full, so behind an answer that is taken.
-        // Without a further call there is nothing to tell, and the keeper sleeps on.
+        // The keeper skips a call only while the ring of answers is full, so after an answer that is taken. Without a
+        // further call there is nothing to notify, and the keeper sleeps on.
         if answer.ticket.saturating_add(1) < self.ticket {
             self.registration.notify();
         }
         Some(answer)
     }
 
-    /// Waits after a `take` that gave nothing, and only there: between two such calls a `take` has to look for an
-    /// answer. After many such in a row it parks until the keeper has answered or is gone; before that it comes back
-    /// at once, for another `take`.
+    /// Waits. It must be called only after a `take` that returned nothing: between two such calls a `take` has to look
+    /// for an answer. After many in a row it parks until the keeper has answered or is gone; before that it returns at
+    /// once, for another `take`.
     pub fn idle<R: Wait>(&self, rt: &R) {
         self.backoff.snooze(rt);
     }
 
-    /// Whether `idle` waits for the keeper now, and doesn't come back at once.
+    /// Whether `idle` would wait for the keeper now, and not return at once.
     pub fn will_sleep(&self) -> bool {
         self.backoff.may_sleep()
     }
 
-    /// Whether the keeper was seen to let the last call wait, so that its answer may be long in coming.
+    /// Whether the keeper was seen to let the last call wait, so its answer may take long.
     pub fn is_blocked(&self) -> bool {
         self.registration.is_blocked_before(self.ticket)
     }
 
-    /// Waits as `idle` does, and no longer than this time. It says whether it has waited so long.
+    /// Waits like `idle`, but at most for this time. Returns whether that time has passed.
     pub fn idle_for<R: Wait + Clock>(&self, rt: &R, time: Duration) -> bool {
         self.backoff.snooze_for(rt, time)
     }
 
-    /// Lets none of the calls made so far wait any longer: the keeper answers those that do as if their time were over.
+    /// Ends the waits of all calls made so far: the keeper answers those that wait as if their time were over.
     pub fn hurry(&self) {
         self.registration.hurry(self.ticket);
     }
 
-    /// Whether the keeper is gone. Where it is, and a `take` after that gives nothing, no answer comes any more.
+    /// Whether the keeper is gone. If it is, and a `take` after that returns nothing, no answer comes any more.
     pub fn is_gone(&self) -> bool {
         self.gone.load(Ordering::SeqCst)
     }

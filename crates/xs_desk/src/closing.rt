@@ -14,7 +14,7 @@ use crate::lane_end::LaneEnd;
 use crate::summary::{LaneSummary, Summary};
 use std::alloc::Global;
 
-/// Why a desk wasn't closed. Both arguments come back as they were. The first that holds is told.
+/// Why a desk wasn't closed. Both arguments are returned unchanged. The first cause that applies is reported.
 #[derive(Drop)]
 pub enum CloseError {
     /// The end of a lane is missing.
@@ -23,7 +23,7 @@ pub enum CloseError {
     Memory(Keeper, Vec<Ended>),
 }
 
-/// Where the first end of the lane stands.
+/// The place of the first end of the lane.
 fn end_of(ended: &Vec<Ended>, lane: usize) -> Option<usize>
     ensures found { IfSome result (λ i. (i < length ended.now.items)
         × ((end : Caller) × (slice_get ended.now.items i ≡ Some end) × (end.lane ≡ lane))) }
@@ -68,7 +68,7 @@ fn sum_up(lane_end: &mut LaneEnd, end: &mut Ended) -> LaneSummary
     }
 }
 
-/// Sums up each lane. The room for it was made before, and the ends are all there.
+/// Sums up each lane. There has to be room for the summaries, and no end may be missing.
 fn sum_up_all(lane_ends: &mut Vec<LaneEnd>, ended: &mut Vec<Ended>, lanes: &mut Vec<LaneSummary>)
     requires room { (lanes.old.items ≡ []) × (length lane_ends.old.items ≤ vec_capacity lanes.old) }
     requires ends { AreEndsOfLanes (map lane_of lane_ends.old.items) ended.old.items }
@@ -89,8 +89,8 @@ fn sum_up_all(lane_ends: &mut Vec<LaneEnd>, ended: &mut Vec<Ended>, lanes: &mut 
     }
 }
 
-/// Closes a desk whose clients have finished. Each end is one of the desk's: its rings are those of the keeper's lane
-/// of its number.
+/// Closes a desk whose clients have finished. Each end has to be one of the desk's: its rings are those of the keeper's
+/// lane with its number.
 ///
 /// # Errors
 /// A `CloseError`.

@@ -1,10 +1,10 @@
-//! Where a keeper notes what it has applied.
+//! The notes of a keeper on what it has applied.
 use crate::answer::Call;
 use xs_replay::LogFailed;
 use xs_resp::Reply;
 use xs_stream::Moment;
 
-/// Where a keeper notes what it has applied, before it hands the answers out.
+/// In a journal a keeper notes what it has applied, before it hands the answers out.
 pub trait Journal {
     ghost use Rattle.std.specs.Prelude.{◌≡◌, ℕ, List, true, false, length, MatchResult};
     ghost use Rattle.xs_keys.specs.Event.{Event};
@@ -14,17 +14,17 @@ pub trait Journal {
     ghost use Rattle.xs_desk.specs.Calls.{IsFormed};
     ghost use Rattle.xs_desk.specs.Noting.{Notes, KeepsAtOnce};
 
-    /// These events were noted, and a crash leaves so many of the first of them at least.
+    /// These events were noted, and a crash leaves at least this many of the first of them.
     ghost has: { Self → List Event → ℕ → Type 0 };
 
-    /// What the keyspace held before the first of them.
+    /// The content of the keyspace before the first of them.
     ghost start: { Self → Content };
 
-    /// Whether answers wait until `keep` has come back. If not, what is noted is kept at once.
+    /// Whether answers wait until `keep` has returned. If not, what is noted is kept at once.
     fn holds_back() -> bool
         ensures { result ≡ false → KeepsAtOnce has };
 
-    /// Notes a call that was applied, unless it changed nothing; if it was in vain, it did not.
+    /// Notes a call that was applied, unless it changed nothing. If `in_vain` is true, it changed nothing.
     fn note(&mut self, moment: Moment, call: &Call, reply: &Reply, in_vain: bool)
         requires { IsFormed call.now }
         ensures noted { (old new : Content) → Step old moment call.now.command reply.now new →

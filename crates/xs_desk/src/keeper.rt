@@ -24,20 +24,20 @@ use xs_replay::{EventLog, LogFailed};
 /// Why a turn stopped.
 #[derive(Clone, Copy, Debug, PartialEq, Eq, Error)]
 pub enum KeeperError {
-    /// The next place is the last number, and nobody more is served.
+    /// The next place is the last number, and no call is served any more.
     #[error("there is no further place")]
     Exhausted,
 }
 
-/// The keeper of a desk: it has the keyspace, and one side of each lane. Contracts see the lanes, what the keyspace
-/// holds, and the next place. Where it is dropped, each lane is told that it is gone. It notes what it has applied in a
-/// journal, if there is one.
+/// The keeper of a desk: it owns the keyspace, and one side of each lane. Contracts see the lanes, the content of the
+/// keyspace, and the next place. When it is dropped, each lane is notified. It notes what it has applied in a journal,
+/// if there is one.
 pub struct Keeper<J: Journal + Drop = NoJournal> {
     lane_ends: Vec<LaneEnd>,
     keyspace: Keyspace,
     place: u64,
     schedule: Schedule,
-    // Set once nobody is served any more.
+    // Set once no call is served any more.
     gone: Arc<AtomicBool>,
     journal: J,
 }
@@ -73,7 +73,7 @@ impl<J: Journal + Drop> Drop for Keeper<J> {
     }
 }
 
-/// What a thread promises that hands its keeper back: it has the rings of this one.
+/// A thread that returns its keeper ensures this: it has the rings of this one.
 #[derive(Drop)]
 pub struct SameRings<J: Journal + Drop = NoJournal>(pub Snapshot<Keeper<J>>);
 
@@ -83,8 +83,8 @@ impl<J: Journal + Drop> Promise<Keeper<J>> for SameRings<J> {
     ghost kept_by = { λ p keeper. KeepsRings p.0.value keeper };
 }
 
-/// Tells each lane that nobody is served any more. A lane reads the flag before it looks for an answer, and parks after
-/// that; so its token, which comes after the flag, ends a park that began on the flag as it was before.
+/// Notifies each lane that no call is served any more. A lane reads the flag before it looks for an answer, and parks
+/// after that. Its token, which comes after the flag, ends a park that began before the flag was set.
 fn say_gone(lane_ends: &Vec<LaneEnd>, gone: &Arc<AtomicBool>) {
     gone.store(true, Ordering::SeqCst);
     for lane_end in lane_ends {
@@ -92,7 +92,7 @@ fn say_gone(lane_ends: &Vec<LaneEnd>, gone: &Arc<AtomicBool>) {
     }
 }
 
-/// Looks once at each lane of the span that is looked at, in order, up to one that has served what others wait for.
+/// Looks once at each lane of the span, in order, up to one that has served a call for which others wait.
 fn serve_each<C: Clock, J: Journal>(
     lane_ends: &mut Vec<LaneEnd>,
     schedule: &mut Schedule,
@@ -158,7 +158,7 @@ impl<J: Journal + Drop> Keeper<J> {
     ghost use Rattle.xs_desk.specs.KeptRings.{KeepsRings};
     ghost use Rattle.xs_keys.specs.KeysRoom.{IsRoomOf};
 
-    /// A keeper that has served nobody.
+    /// A keeper that has served no call.
     pub(crate) fn new(
         lane_ends: Vec<LaneEnd>,
         keyspace: Keyspace,
@@ -181,34 +181,34 @@ impl<J: Journal + Drop> Keeper<J> {
         }
     }
 
-    /// How many lanes there are.
+    /// The number of lanes.
     pub fn lanes(&self) -> usize
         ensures { result ≡ length self.now.lanes }
     {
         self.lane_ends.len()
     }
 
-    /// How many bytes its keyspace is counted with, modulo 2^128.
+    /// The number of bytes that its keyspace is counted with, modulo 2^128.
     pub fn bytes_held(&self) -> u128
         ensures { IsRoomOf self.now.keyspace result }
     {
         self.keyspace.bytes_held()
     }
 
-    /// How many calls wait.
+    /// The number of calls that wait.
     pub fn blocked_calls(&self) -> usize {
         self.schedule.blocked.len()
     }
 
     /// Looks at each lane once, in order, and serves at most one call of each, at the moment that the clock gives. A
-    /// lane that has had no call while others had many is passed over until its client gives notice of a call, or of
-    /// room for an answer. A call whose answer has no room stays in its lane. It takes no memory but that of
-    /// `Keyspace::apply`, whose refusal is the reply `OOM`. It answers how many calls it served. All that was served so
-    /// far is one history, answered as the model says, and goes on by these calls.
+    /// lane that has had no call while others had many is skipped until its client gives notice of a call, or of room
+    /// for an answer. A call whose answer has no room stays in its lane. It takes no memory but that of
+    /// `Keyspace::apply`; if that is refused, the reply is `OOM`. Returns the number of calls that it served. All that
+    /// was served so far is one history, answered as in the model, which these calls extend.
     ///
     /// # Errors
-    /// `Exhausted` at the last place, 2^64 - 1, and nobody is served any more. What the turn served before
-    /// stands.
+    /// `Exhausted` at the last place, 2^64 - 1, and no call is served any more. What the turn served before stays
+    /// served.
     pub fn turn<C: Clock>(&mut self, clock: &mut C) -> Result<u64, KeeperError>
         ensures history { MatchResult result
             (λ n. HistoryGoesOn C.gives self.old clock.old n (length self.old.lanes) self.new clock.new)
@@ -227,7 +227,7 @@ impl<J: Journal + Drop> Keeper<J> {
             &mut self.journal,
             span,
         );
-        // That the place is a number of 64 bits is known of it once it is read.
+        // The proof knows that the place is a number of 64 bits once it is read.
         let _place = self.place;
         let Ok(count) = served else {
             say_gone(&self.lane_ends, &self.gone);
@@ -236,11 +236,11 @@ impl<J: Journal + Drop> Keeper<J> {
         Ok(count)
     }
 
-    /// Keeps what the turns since the last call have noted, and then hands out the answers that were held back. It
-    /// gives how many lanes had some.
+    /// Keeps what the turns since the last call have noted, and then hands out the answers that were held back. Returns
+    /// the number of lanes that had some.
     ///
     /// # Errors
-    /// The log has failed: none of those answers is handed out, and nobody is served any more.
+    /// The log has failed: none of those answers is handed out, and no call is served any more.
     pub fn settle(&mut self) -> Result<u64, LogFailed>
         ensures { self.new ≡ self.old }
     {
@@ -254,29 +254,29 @@ impl<J: Journal + Drop> Keeper<J> {
         Ok(release_each(&mut self.lane_ends))
     }
 
-    /// Waits after a turn that served nobody, and only there: between two such calls a turn has to look at the lanes.
-    /// After many such turns in a row it parks until a lane or a waker gives the keeper's token; before that it comes
-    /// back at once, for another turn.
+    /// Waits. It must be called only after a turn that served no call: between two such calls a turn has to look at the
+    /// lanes. After many such turns in a row it parks until a lane or a waker gives the keeper's token; before that it
+    /// returns at once, for another turn.
     pub fn idle<R: Wait>(&self, rt: &R) {
         self.schedule.backoff.snooze(rt);
     }
 
-    /// Whether `idle` may park now, and doesn't come back at once.
+    /// Whether `idle` may park now, and not return at once.
     pub fn will_sleep(&self) -> bool {
         self.schedule.backoff.may_sleep()
     }
 
     /// From now on a read with BLOCK that would be answered with the null array waits: it stays in its lane until it
-    /// would be answered otherwise, its time is over, or its client hurries it. Then `read_clock` has to come before
-    /// each turn, and `idle_until` in the place of `idle`.
+    /// would be answered otherwise, its time is over, or its client hurries it. Then `read_clock` has to be called
+    /// before each turn, and `idle_until` in the place of `idle`.
     pub fn let_wait(&mut self)
         ensures { self.new ≡ self.old }
     {
         self.schedule.lets_wait = true;
     }
 
-    /// From now on additions, new groups and new consumers are refused if what the keyspace holds and what they take
-    /// are more than so many bytes; 0 if there is no bound.
+    /// From now on additions, new groups and new consumers are refused if the bytes in the keyspace and those that they
+    /// take are together more than `bytes`; 0 if there is no bound.
     pub fn set_bound(&mut self, bytes: u64)
         ensures { self.new ≡ self.old }
     {
@@ -290,7 +290,7 @@ impl<J: Journal + Drop> Keeper<J> {
         self.schedule.blocked.read_clock(system);
     }
 
-    /// The lane whose call has waited, and which the next turn looks at alone since there may be something for it.
+    /// The lane of a call that has waited and may now find something. The next turn looks at this lane only.
     pub fn next_due(&self) -> Option<usize> {
         match self.schedule.blocked.next_due() {
             Some(due) if due.may_wait => Some(due.lane),
@@ -298,33 +298,34 @@ impl<J: Journal + Drop> Keeper<J> {
         }
     }
 
-    /// Lets others come before the lane that `next_due` gave: its client has left. Its call waits for a second more.
+    /// Lets others come before the lane that `next_due` returned, because its client has left. Its call waits for a
+    /// second more.
     pub fn postpone<S: time::Clock>(&mut self, system: &S, lane: usize)
         ensures { self.new ≡ self.old }
     {
         self.schedule.blocked.postpone(system, lane);
     }
 
-    /// Waits as `idle` does, and no longer than up to the end of the first of the waits.
+    /// Waits like `idle`, but at most up to the end of the first of the waits.
     pub fn idle_until<R: Wait + time::Clock>(&self, rt: &R) {
         self.schedule
             .backoff
             .snooze_until(rt, self.schedule.blocked.next_end());
     }
 
-    /// What wakes this keeper.
+    /// The waker of this keeper.
     pub fn waker(&self) -> Result<Waker, AllocError> {
         self.schedule.backoff.waker()
     }
 }
 
 impl<L: EventLog + Drop> Keeper<LogJournal<L>> {
-    /// Whether its log has failed, so that nobody is served any more.
+    /// Whether its log has failed. If so, no call is served any more.
     pub fn has_failed(&self) -> bool {
         self.journal.has_failed()
     }
 
-    /// How many events its log is known to keep, beyond those that it had at first.
+    /// The number of events that its log is known to keep, without those that it had at the start.
     pub fn events_kept(&self) -> u64 {
         self.journal.events_kept()
     }
@@ -336,7 +337,7 @@ impl Keeper {
     ghost use Rattle.xs_desk.specs.History.{ServedCall, IsHistory};
     ghost use Rattle.xs_desk.specs.LaneEnds.{desk_of};
 
-    /// Takes the keeper apart, where nobody waits for it any more.
+    /// Takes the keeper apart, if no client waits for it any more.
     pub(crate) fn into_parts(self) -> (Vec<LaneEnd>, Keyspace)
         ensures parts { (place : ℕ) × (self ≡ desk_of result.0.items result.1 place empty) }
         ensures history { (history : List ServedCall) × IsHistory history self }

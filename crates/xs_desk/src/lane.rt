@@ -12,15 +12,15 @@ use xs_resp::Reply;
 
 /// How the client of a lane waits for an answer.
 pub trait Pause {
-    /// Waits after a look that has found no answer, and before the next one. It may come back at once.
+    /// Waits after a look that has found no answer, and before the next one. It may return at once.
     fn pause<R: Wait>(&self, rt: &R, client: &Client);
 
-    /// Waits in the same way while other answers are gathered. It says whether they are to be sent before it waits any
+    /// Waits in the same way while other answers are gathered. Returns whether they are to be sent before it waits any
     /// longer.
     fn pause_briefly<R: Wait>(&self, rt: &R, client: &Client) -> bool;
 }
 
-/// It waits as `Client::idle` does.
+/// It waits like `Client::idle`.
 #[derive(Clone, Copy, Debug, PartialEq, Eq)]
 pub struct Idle;
 
@@ -65,7 +65,7 @@ impl Lane<Idle> {
 impl<P: Drop> Lane<P> {
     ghost use Rattle.std.specs.Prelude.{◌≡◌, false};
 
-    /// A port of this client, which waits so for an answer. It takes no memory.
+    /// A port of this client, which waits for an answer by `pause`. It takes no memory.
     pub fn with_pause(client: Client, pause: P) -> Lane<P>
         ensures { result ≡ record { client = client; gone = false } }
     {
@@ -76,7 +76,7 @@ impl<P: Drop> Lane<P> {
         }
     }
 
-    /// Gives the client back. It takes no memory.
+    /// Returns the client. It takes no memory.
     pub fn end(self) -> Client
         ensures { result ≡ self.client }
     {
@@ -84,7 +84,7 @@ impl<P: Drop> Lane<P> {
     }
 }
 
-/// The next answer, which it waits for.
+/// Waits for the next answer.
 fn next_answer<P: Pause, R: Wait>(
     rt: &R,
     client: &mut Client,
@@ -107,7 +107,7 @@ fn next_answer<P: Pause, R: Wait>(
     unreachable!()
 }
 
-/// Submits the command; while there is no room for it, it takes an older answer: with each of them a call has left its
+/// Submits the command. While there is no room for it, it takes an older answer: with each of them a call has left its
 /// ring.
 #[tactic(auto, using(crate::proofs::Askings::steps))]
 fn submit<P: Pause, R: Wait>(

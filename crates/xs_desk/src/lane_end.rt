@@ -24,41 +24,41 @@ use xs_stream::Moment;
 pub(crate) struct LaneEnd {
     pub calls: Consumer<Call, Global, Formed>,
     pub answers: Outbox,
-    // How many answers were given.
+    // The number of answers that were given.
     pub ticket: u64,
     pub waker: Waker,
     pub marks: Arc<WaitMarks>,
     ghost counted: { ticket ≡ length (given answers) },
 }
 
-/// How a lane is looked at.
+/// How a look at a lane works.
 #[derive(Clone, Copy, Debug, PartialEq, Eq)]
 pub(crate) struct Manner {
-    /// Its call may wait.
+    /// Whether its call may wait.
     pub may_wait: bool,
-    /// Others wait, so it matters which keys are touched.
+    /// Whether others wait, so the touched keys are needed.
     pub others_wait: bool,
 }
 
 /// How a call is served.
 #[derive(Clone, Copy, Debug, PartialEq, Eq)]
 struct Serving {
-    /// Others wait, so it matters which keys are touched.
+    /// Whether others wait, so the touched keys are needed.
     others_wait: bool,
-    /// Its answer is held back.
+    /// Whether its answer is held back.
     holds_back: bool,
 }
 
-/// What was served.
+/// A call that was served.
 #[derive(Clone, Copy, Debug, PartialEq, Eq)]
 pub(crate) struct Done {
-    /// When it was applied.
+    /// The moment at which it was applied.
     pub moment: Moment,
     /// If others wait, the keys that it touched, by their bits.
     pub touched: u64,
 }
 
-/// What came of a look at a lane.
+/// The result of a look at a lane.
 #[derive(Clone, Copy, Debug, PartialEq, Eq)]
 pub(crate) enum Look {
     Idle,
@@ -69,7 +69,8 @@ pub(crate) enum Look {
     Exhausted,
 }
 
-/// If it is asked, whether a command is a read that finds nothing and changes nothing. Idle consumers send many.
+/// Whether a command is a read that finds nothing and changes nothing, if `is_asked` is true; else false. Idle
+/// consumers send many such reads.
 fn is_in_vain(keyspace: &Keyspace, command: &Command, is_asked: bool) -> bool
     ensures { result ≡ true → ChangesNothing keyspace.now command.now }
 {
@@ -93,7 +94,7 @@ fn is_blocking(command: &Command) -> bool {
 impl LaneEnd {
     ghost use Rattle.xs_desk.specs.LaneEnds.{lane_of, handed_out, scene, Looks, FindsNothing, MayWait, IsService};
 
-    /// Serves the next call of the lane, if there is one, it doesn't wait, and there is room for its answer.
+    /// Serves the next call of the lane, if there is one, if it doesn't wait, and if there is room for its answer.
     pub fn serve<C: Clock, J: Journal>(
         &mut self,
         keyspace: &mut Keyspace,
@@ -140,7 +141,7 @@ impl LaneEnd {
         !self.calls.is_empty() && self.answers.has_room(holds_back)
     }
 
-    /// Whether the next look at the lane serves a further call in any case, so that its client need not be woken before.
+    /// Whether the next look at the lane serves a further call in any case, so its client needn't be woken before.
     fn has_next(&mut self) -> bool
         ensures lane { lane_of self.new ≡ lane_of self.old }
         ensures handed { handed_out self.new ≡ handed_out self.old }
@@ -148,7 +149,7 @@ impl LaneEnd {
         self.can_serve(false) && !is_blocking(&self.calls.peek_known().command)
     }
 
-    /// Sends the answers that were held back, and says whether there were any.
+    /// Sends the answers that were held back. Returns whether there were any.
     pub fn release(&mut self) -> bool
         ensures lane { lane_of self.new ≡ lane_of self.old }
         ensures handed { handed_out self.new ≡ (lane_of self.old).sent }
@@ -180,8 +181,8 @@ impl LaneEnd {
         }
     }
 
-    /// Serves the next call of a lane that is known to have one, and room for its answer. It is apart, so that the many
-    /// looks that find nothing stay short.
+    /// Serves the next call of a lane. There has to be one, and room for its answer. It is a function of its own, so
+    /// the many looks that find nothing stay short.
     #[inline(never)]
     fn serve_next<C: Clock, J: Journal>(
         &mut self,

@@ -3,10 +3,10 @@ ghost use Rattle.std.specs.Prelude.{◌≤◌, ◌<◌, ◌^◌, IfSome};
 
 use crate::opening::MOST_LANES;
 
-/// A word has a bit for so many lanes.
+/// The number of lanes for which a word has bits.
 const WORD: usize = 64;
 
-/// So many words have a bit for each lane that there may be.
+/// The number of words for all lanes that a desk can have.
 const WORDS: usize = MOST_LANES / WORD;
 
 /// A set of lanes: a bit for each, the lowest of the first word for lane 0.
@@ -15,7 +15,7 @@ pub(crate) struct LaneSet {
     words: [u64; WORDS],
 }
 
-/// Which word has the bit of a lane.
+/// The index of the word with the bit of a lane.
 pub(crate) fn word_of(lane: usize) -> usize {
     lane / WORD
 }

@@ -17,34 +17,34 @@ ghost use Rattle.xs_desk.specs.KeeperTurns.{ServesAll};
 
 use crate::journal::Journal;
 
-/// A desk has one history at most.
+/// A desk has at most one history.
 pub fn history_is_unique()
     ensures { (desk : Desk) (one other : List ServedCall) → IsHistory one desk → IsHistory other desk → one ≡ other }
 {}
 
-/// The calls that a turn serves (`Keeper::turn`) come behind those of the history before it, and nothing else does.
+/// The calls that a turn serves (`Keeper::turn`) come after those of the history before it, and nothing else is added.
 pub fn history_grows_by_what_is_served()
     ensures { (old new : Desk) (history calls : List ServedCall) → IsHistory history old → ServesAll old calls new
         → IsHistory (history ++ calls) new }
 {}
 
-/// Of what a desk served, that began with nothing, the headline holds from the first call on, and of each event: its
-/// command is well formed, it leaves the lives of other groups alone, and each job goes along an arrow.
+/// The headline holds for what a desk that began empty has served, from the first call on, and for each event: its
+/// command is well formed, it leaves the lives of other groups unchanged, and each job goes along an arrow.
 pub fn what_is_served_has_the_headline()
     ensures { (desk : Desk) (history : List ServedCall) → IsHistory history desk → desk.start ≡ empty → (events : History)
         × Headline [] (events_of history) (replies_of history) events × AreWellFormed events
         × AtEach events (λ earlier e. LivesAreApart earlier e × EachMovesAlong earlier e) }
 {}
 
-/// Of what a desk served the headline holds over any past that left what its keyspace held at the start.
+/// The headline holds for what a desk has served over any past that left the content at its start.
 pub fn what_is_served_goes_on()
     ensures { (desk : Desk) (history : List ServedCall) (past : History) → IsHistory history desk →
         IsContent desk.start past → (events : History)
         × Headline past (events_of history) (replies_of history) events × IsContent desk.keyspace events }
 {}
 
-/// Whatever a crash leaves of a log that has what a keeper noted, the calls that survive have each answer that was
-/// handed out: the calls before the first event that is lost, and among them all that are settled.
+/// Whatever a crash leaves of a log that has what a keeper noted, the calls that survive include each answer that was
+/// handed out: they are the calls before the first event that is lost, including all that are settled.
 pub fn what_was_handed_out_survives<J: Journal>()
     ensures { (history : List ServedCall) (ends : List LaneEnd) (start content : Content) (journal : J) →
         IsDurable J.has history ends start content journal →

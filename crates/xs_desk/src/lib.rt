@@ -1,4 +1,4 @@
-//! Whom commands are asked of: a keyspace alone, or a desk, whose keeper serves the calls of many clients, each over a
+//! What serves commands: a keyspace with a clock, or a desk, whose keeper serves the calls of many clients, each over a
 //! lane of its own. What a desk has done is its history (`specs/History.antt`): the calls that its keeper served, each
 //! with its answer, in the order of their places.
 #![tactic(auto)]

@@ -12,14 +12,14 @@ use xs_replay::{EventLog, LogFailed};
 use xs_resp::Reply;
 use xs_stream::Moment;
 
-/// The journal of a desk with a log: calls that may have changed something are noted, and answers wait until the log
-/// keeps what they tell.
+/// The journal of a desk with a log: calls that may have changed something are noted, and an answer waits until the
+/// log keeps the events of its call and of those before it.
 #[derive(Drop)]
 pub struct LogJournal<L: EventLog + Drop> {
     log: L,
-    // Nothing more may be asked of the log.
+    // Whether the log must not be used any more.
     failed: bool,
-    // How many events were noted, and how many of them are kept.
+    // The number of events that were noted, and the number of those that are kept.
     noted: u64,
     kept: u64,
     first: Snapshot<Keyspace>,
@@ -67,8 +67,7 @@ impl<L: EventLog + Drop> LogJournal<L> {
     ghost use Rattle.xs_desk.specs.Calls.{IsFormed};
     ghost use Rattle.xs_desk.specs.LogJournals.{HasEvents, ContinuesLog};
 
-    /// A journal that goes on behind the events of a log, which have left what the keyspace has. Before them it was the
-    /// first one.
+    /// A journal that continues a log, whose events have left the content of this keyspace, from the content `first`.
     pub(crate) fn new(log: L, first: Snapshot<Keyspace>, keyspace: &Keyspace) -> LogJournal<L>
         requires log { ContinuesLog L.has first.value log keyspace.now }
         requires sound { L.broken log ≡ false }
@@ -86,17 +85,17 @@ impl<L: EventLog + Drop> LogJournal<L> {
         }
     }
 
-    /// Whether nothing more may be asked of the log.
+    /// Whether the log must not be used any more.
     pub(crate) fn has_failed(&self) -> bool {
         self.failed
     }
 
-    /// How many events are known to be kept, beyond those that the log had at first.
+    /// The number of events that are known to be kept, without those that the log had at the start.
     pub(crate) fn events_kept(&self) -> u64 {
         self.kept
     }
 
-    /// Appends the event of a call to the log. If that can't be done the log has failed.
+    /// Appends the event of a call to the log. If that fails, the log has failed.
     fn append(&mut self, moment: Moment, call: &Call)
         requires { IsFormed call.now }
         ensures noted { (events : List Event) (kept : ℕ) →

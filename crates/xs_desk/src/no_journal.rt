@@ -12,7 +12,7 @@ pub struct NoJournal;
 impl Journal for NoJournal {
     ghost use Rattle.xs_bytes.specs.SortedMap.{empty};
 
-    // So of a desk without a log `IsDurable` says nothing: a crash leaves nothing of it.
+    // So `IsDurable` states nothing about a desk without a log: a crash leaves nothing of it.
     ghost has = { λ _ events kept. Unit {0} };
 
     ghost start = { λ _. empty };

@@ -36,16 +36,16 @@ pub const MOST_LANES: usize = 1024;
 /// The most places of a ring.
 pub const MAX_DEPTH: usize = 65_536;
 
-/// How many bytes the keyspace of a desk leaves to the threads of its clients.
+/// The number of bytes that the keyspace of a desk leaves to the threads of its clients.
 const LEFT_FREE: usize = 262_144;
 
-/// Why no desk was made. The first that holds is told.
+/// Why no desk was made. The first cause that applies is reported.
 #[derive(Clone, Copy, Debug, PartialEq, Eq, Error)]
 pub enum DeskError {
-    /// There are 1 to 64 lanes, or 1 to 1024 of a wide desk.
+    /// The number of lanes isn't from 1 to 64, or from 1 to 1024 for a wide desk.
     #[error("a desk has 1 to 64 lanes, a wide one 1 to 1024")]
     Lanes,
-    /// There are 1 to 65536 places.
+    /// The number of places isn't from 1 to 65536.
     #[error("a ring has 1 to 65536 places")]
     Depth,
     /// Out of memory.
@@ -159,7 +159,7 @@ fn open_desk<J: Journal + Drop>(
     ))
 }
 
-/// Whether a desk may have so many lanes, at most as many as `most`, of so many places each.
+/// Checks that a desk may have `n` lanes, at most `most`, with `depth` places each.
 fn check_counts(most: usize, n: usize, depth: usize) -> Result<(), DeskError>
     ensures { MatchResult result (λ _. IsLaneCount most n × IsDepth depth) (IsDeskError most n depth) }
 {
@@ -172,7 +172,7 @@ fn check_counts(most: usize, n: usize, depth: usize) -> Result<(), DeskError>
     Ok(())
 }
 
-/// A desk of 1 to 64 lanes, as `wide_desk` makes it.
+/// A desk of 1 to 64 lanes, otherwise like `wide_desk`.
 ///
 /// # Errors
 /// A `DeskError`.
@@ -185,8 +185,8 @@ pub fn desk(alloc: Global, n: usize, depth: usize) -> Result<(Keeper, Vec<Client
     open_desk(alloc, n, depth, Keyspace::new(alloc), NoJournal).map_err(|_| DeskError::Memory)
 }
 
-/// A desk with an empty keyspace and n lanes, 1 to 1024, each with as many places for calls, and for answers, as
-/// `depth` says; and the client of each lane, in the order of their numbers. It makes all that rings and waiting need.
+/// A desk with an empty keyspace and `n` lanes, 1 to 1024, each with `depth` places for calls and as many for answers;
+/// and the client of each lane, in the order of their numbers. All memory for rings and waiting is taken here.
 ///
 /// # Errors
 /// A `DeskError`.
@@ -199,8 +199,8 @@ pub fn wide_desk(alloc: Global, n: usize, depth: usize) -> Result<(Keeper, Vec<C
     open_desk(alloc, n, depth, Keyspace::new(alloc), NoJournal).map_err(|_| DeskError::Memory)
 }
 
-/// A desk as `wide_desk` makes it, over a keyspace that has what a log's events have left. Before them it was the first
-/// one. Its keeper notes in the log what it applies, and hands an answer out once the log keeps that.
+/// A desk like that of `wide_desk`, over a keyspace with the content after a log's events. Before them the content was
+/// `first`. Its keeper notes in the log what it applies, and hands an answer out once the log keeps that.
 ///
 /// # Errors
 /// A `DeskError`.

@@ -7,8 +7,8 @@ use rtrb::Producer;
 use std::alloc::{AllocError, Global};
 use std::collections::VecDeque;
 
-/// The ring of answers, and behind what was sent through it the answers that are held back until what they tell is
-/// kept.
+/// The ring of answers, and after those that were sent through it the answers that are held back until the events
+/// before them are kept.
 #[derive(Drop)]
 pub(crate) struct Outbox {
     pub ring: Producer<Answer>,
@@ -33,7 +33,7 @@ impl Outbox {
         }
     }
 
-    /// Makes room to hold so many answers back.
+    /// Makes room to hold `count` answers back.
     pub(crate) fn reserve(&mut self, count: usize) -> Result<(), AllocError>
         ensures ring { self.new.ring ≡ self.old.ring }
         ensures held_back { self.new.held_back.items ≡ self.old.held_back.items }
@@ -72,7 +72,7 @@ impl Outbox {
         }
     }
 
-    /// Sends what was held back, and says whether that was anything.
+    /// Sends the answers that were held back. Returns whether there were any.
     pub(crate) fn release(&mut self) -> bool
         ensures given { given self.new ≡ given self.old }
         ensures sent { sent self.new.ring ≡ given self.old }

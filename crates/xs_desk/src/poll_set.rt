@@ -1,16 +1,15 @@
-//! Which lanes the keeper looks at. No promise rests on it.
+//! Which lanes the keeper looks at. No contract depends on it.
 //!
 //! A lane that has had no call while others had a whole round of them is at rest: the keeper looks at it again once its
-//! client gives notice. Both are told by words that all lanes share, with a bit for each. So a turn over many lanes
-//! costs little more than those in use, and a client that calls again and again writes to no word but those of its
-//! rings.
+//! client gives notice. Both are stored in words that all lanes share, with a bit for each. So a turn over many lanes
+//! costs little more than those in use, and a client that calls again and again writes only to the words of its rings.
 //!
-//! Nothing is missed, since all loads and stores have one order: before the last looks of a round the keeper stores
-//! which lanes are at rest unless these looks find a call; a client pushes or takes something, and then loads that.
+//! Nothing is missed, since all loads and stores have one order. Before the last looks of a round the keeper stores
+//! which lanes will be at rest unless these looks find a call. A client pushes or takes something, and then loads that.
 //! If the keeper's look came before the push, so did its store: the client finds the lane at rest, and gives notice
 //! before its call ends. If the look came after the push, it has found what was pushed.
 //!
-//! Notices have two levels, so that a turn reads one word if there are none: a client sets its lane's bit in a word of
+//! Notices have two levels, so a turn reads one word if there are none. A client sets its lane's bit in a word of
 //! notices, then that word's bit in the word above; the keeper takes the word above first. So a bit below that it
 //! doesn't take has, or gets, its bit above.
 ghost use Rattle.std.specs.Prelude.{◌≤◌, ◌<◌, ◌^◌, IfSome};
@@ -22,11 +21,11 @@ use std::alloc::{AllocError, Global};
 use std::sync::Arc;
 use std::sync::atomic::{AtomicU64, Ordering};
 
-/// So many calls are a round, with the others of the turn in which the last of them is served, and those of the turn
-/// after it, which looks a last time.
+/// The number of calls in a round. The others of the turn in which the last of them is served are in the round too, and
+/// those of the next turn, which looks a last time.
 const ROUND: u32 = 64;
 
-/// What the keeper and the clients of 64 lanes tell each other: a bit for each lane.
+/// What the keeper and the clients of 64 lanes share: a bit for each lane.
 #[derive(Drop)]
 struct Rests {
     // The lanes at rest; the keeper stores them.
@@ -35,7 +34,7 @@ struct Rests {
     notices: AtomicU64,
 }
 
-/// What the keeper and all clients tell each other.
+/// What the keeper and all clients share.
 #[derive(Drop)]
 struct Board {
     rests: Vec<Rests>,
@@ -47,16 +46,16 @@ struct Board {
 #[derive(Drop)]
 pub(crate) struct PollSet {
     lanes: LaneSet,
-    // Those that had a call in this round.
+    // The lanes that had a call in this round.
     used: LaneSet,
-    // How many calls the round has had.
+    // The number of calls in this round so far.
     calls: u32,
     // Whether the round ends with this turn.
     is_last: bool,
     board: Arc<Board>,
 }
 
-/// What the client of a lane tells the keeper by.
+/// By which the client of a lane notifies the keeper.
 #[derive(Drop)]
 pub(crate) struct Registration {
     lane: usize,
@@ -67,7 +66,7 @@ pub(crate) struct Registration {
 }
 
 impl PollSet {
-    /// Room for so many lanes. None is looked at.
+    /// Room for `lanes` lanes. None is looked at.
     pub fn new(alloc: Global, lanes: usize) -> Result<PollSet, AllocError> {
         let mut rests = Vec::new(alloc);
         for _ in (0..lanes).step_by(64) {
@@ -89,7 +88,7 @@ impl PollSet {
         })
     }
 
-    /// What tells the keeper, whom this wakes, of a lane that is looked at from now on.
+    /// The registration of a lane, which is looked at from now on. `waker` wakes the keeper.
     pub fn register(
         &mut self,
         lane: usize,
@@ -126,13 +125,13 @@ impl PollSet {
         self.lanes.first_from(from, end)
     }
 
-    /// A look at the lane has found a call.
+    /// Notes that a look at the lane has found a call.
     pub fn found(&mut self, lane: usize) {
         self.used.insert(lane);
         self.calls = self.calls.saturating_add(1);
     }
 
-    /// The lane is looked at.
+    /// The lane is looked at from now on.
     pub fn insert(&mut self, lane: usize) {
         self.lanes.insert(lane);
     }
@@ -174,9 +173,9 @@ impl PollSet {
 }
 
 impl Registration {
-    /// Tells the keeper of a call, or of room for an answer, if it doesn't look. The notice comes before the waker: if
-    /// the keeper sleeps, the turn to which it wakes finds the notice; if it doesn't yet, the look after which it may
-    /// sleep comes later than the notice.
+    /// Notifies the keeper of a call, or of room for an answer, if it doesn't look at the lane. The notice comes before
+    /// the waker: if the keeper sleeps, the turn to which it wakes finds the notice; if it doesn't yet, the look after
+    /// which it may sleep comes later than the notice.
     pub fn notify(&self) {
         if let Some(rests) = self.board.rests.get(word_of(self.lane)) {
             if rests.resting.load(Ordering::SeqCst) & bit_of(self.lane) != 0 {
@@ -186,7 +185,7 @@ impl Registration {
         self.waker.wake_if_asleep();
     }
 
-    /// Tells the keeper that no call with a ticket below this one waits, and to look at the lane.
+    /// Notifies the keeper that no call with a ticket below this one waits, so it looks at the lane.
     pub fn hurry(&self, ticket: u64) {
         self.marks.hurry_below(ticket);
         if let Some(rests) = self.board.rests.get(word_of(self.lane)) {

@@ -1,4 +1,4 @@
-//! What commands are asked of.
+//! What a session sends commands to.
 use crate::answer::Call;
 use std::sync::Wait;
 use thiserror::Error;
@@ -13,7 +13,7 @@ pub enum PortFault {
     Gone,
 }
 
-/// What commands are asked of. Each implementation names what its replies may be.
+/// What serves commands, one at a time. Each implementation defines which replies are possible.
 pub trait Port {
     ghost use Rattle.std.specs.Prelude.{◌≡◌, ◌||◌, Bool, MatchResult, is_err};
     ghost use Rattle.xs_command.specs.WellFormed.{IsWellFormed};
@@ -24,16 +24,16 @@ pub trait Port {
     /// The state before, the command, the reply, the state after.
     ghost replies: { Self → Command → Reply → Self → Type 0 };
 
-    /// The state before, the command, the state after, where there was no reply.
+    /// The state before, the command, the state after, if there was no reply.
     ghost fails: { Self → Command → Self → Type 0 };
 
-    /// It has answered a fault.
+    /// Whether a call has returned a fault.
     ghost gone: { Self → Bool };
 
-    /// Whether a call has to bring the words that say its command.
+    /// Whether a call has to contain the words that spell its command.
     fn wants_words(&self) -> bool;
 
-    /// Asks for the reply to one call. It may wait.
+    /// Returns the reply to one call. It may wait.
     ///
     /// # Errors
     /// `Gone`, and the port is gone for good. The command may have been executed.
@@ -43,7 +43,7 @@ pub trait Port {
             (λ reply. replies self.old call.command reply self.new) (λ _. fails self.old call.command self.new) }
         ensures fault { gone self.new ≡ (gone self.old || is_err result) };
 
-    /// Asks for the reply to one command, without its words. It may wait.
+    /// Returns the reply to one command, without its words. It may wait.
     ///
     /// # Errors
     /// `Gone`, and the port is gone for good. The command may have been executed.

@@ -1,4 +1,4 @@
-//! Whom the keeper looks at, and when it sleeps. No promise rests on it.
+//! Which lanes the keeper looks at, and when it sleeps. No contract depends on it.
 ghost use Rattle.std.specs.Prelude.{◌≤◌, ◌<◌, ◌^◌, IfSome};
 
 use crate::blocked::{BlockedCalls, Wish};
@@ -6,17 +6,17 @@ use crate::lane_end::{Done, Manner};
 use crate::poll_set::PollSet;
 use crate::waiting::Backoff;
 
-/// Whom the keeper looks at, and when it sleeps.
+/// Which lanes the keeper looks at, and when it sleeps.
 #[derive(Drop)]
 pub(crate) struct Schedule {
     pub poll_set: PollSet,
     pub blocked: BlockedCalls,
     pub backoff: Backoff,
-    /// Whether calls wait at all.
+    /// Whether calls may wait at all.
     pub lets_wait: bool,
 }
 
-/// Which lanes a turn looks at: those that are looked at anyway, from one on and below another.
+/// The lanes of a turn: those of the poll set from `from` on and below `end`.
 #[derive(Clone, Copy, Debug, PartialEq, Eq)]
 pub(crate) struct Span {
     pub from: usize,
@@ -26,8 +26,8 @@ pub(crate) struct Span {
 }
 
 impl Schedule {
-    /// Begins a turn over a desk of so many lanes: over the lane whose call is due next, or over all, or over those
-    /// that were left out when the last turn was cut short. The keeper sleeps only after one over all.
+    /// Begins a turn over a desk with `lanes` lanes: over the lane whose call is due next, or over all, or over those
+    /// that were left out when the last turn ended early. The keeper sleeps only after one over all.
     pub fn begin_turn(&mut self, lanes: usize) -> Span {
         self.backoff.begin_look();
         if self.blocked.is_quiet() {
@@ -71,7 +71,7 @@ impl Schedule {
         self.poll_set.first_from(from, end)
     }
 
-    /// How a lane of this span is looked at.
+    /// How the lanes of this span are looked at.
     pub fn manner(&self, span: &Span) -> Manner {
         Manner {
             may_wait: span.may_wait,
@@ -92,7 +92,7 @@ impl Schedule {
         }
     }
 
-    /// A call of this lane was served. It answers whether the turn is cut short, to go on at the next lane later: a
+    /// A call of this lane was served. Returns whether the turn ends, to be resumed at the next lane later, because a
     /// call that waits is due.
     pub fn found_call(&mut self, lane: usize, done: Done, next: usize) -> bool {
         self.poll_set.found(lane);

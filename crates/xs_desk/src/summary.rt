@@ -1,15 +1,15 @@
-//! What is left of a desk.
+//! The summary of a desk that was closed.
 use xs_keys::Keyspace;
 
-/// How many calls of a lane were served, how many were submitted and not served, and how many answers were sent and
-/// not taken.
+/// The number of calls of a lane that were served, of those that were submitted and not served, and of the answers that
+/// were sent and not taken.
 #[derive(Clone, Copy, Debug, PartialEq, Eq)]
 pub struct LaneSummary {
-    /// Calls that were served.
+    /// The number of calls that were served.
     pub served: u64,
-    /// Calls that were submitted and not served.
+    /// The number of calls that were submitted and not served.
     pub left: u64,
-    /// Answers that were sent and not taken.
+    /// The number of answers that were sent and not taken.
     pub untaken: u64,
 }
 
@@ -18,6 +18,6 @@ pub struct LaneSummary {
 pub struct Summary {
     /// Each lane, in the order of their numbers.
     pub lanes: Vec<LaneSummary>,
-    /// What the keeper had.
+    /// The keyspace.
     pub keyspace: Keyspace,
 }

@@ -1,12 +1,12 @@
-//! What both sides of a lane tell each other of calls that wait. No promise rests on it.
+//! What both sides of a lane share about calls that wait. No contract depends on it.
 use std::sync::atomic::{AtomicU64, Ordering};
 
-/// What both sides of a lane tell each other of calls that wait.
+/// What both sides of a lane share about calls that wait.
 #[derive(Drop)]
 pub(crate) struct WaitMarks {
     // No call with a ticket below it waits; the client stores it.
     hurried: AtomicU64,
-    // The ticket behind that of the call that was last found to wait; the keeper stores it.
+    // The ticket after that of the call that was last found to wait; the keeper stores it.
     behind_blocked: AtomicU64,
 }
 
@@ -29,7 +29,7 @@ impl WaitMarks {
         ticket >= self.hurried.load(Ordering::SeqCst)
     }
 
-    /// The call with this ticket waits.
+    /// Notes that the call with this ticket waits.
     pub fn found_blocked(&self, ticket: u64) {
         self.behind_blocked
             .store(ticket.saturating_add(1), Ordering::SeqCst);

@@ -1,17 +1,17 @@
-//! How a lane and its keeper wait for each other. No promise rests on it.
+//! How a lane and its keeper wait for each other. No contract depends on it.
 //!
 //! A side that finds nothing looks again at once, then, while calls follow fast, after yielding the processor, and then
-//! it parks. A yield lets the other side run that waits for the same processor. But if other work fills all processors,
-//! a side that has yielded gets its own back only when that work's turn is over, milliseconds later: then calls don't
-//! follow fast any more, and the side parks after a few looks, without a yield, until they have done so for a while. A
-//! lane whose call the keeper lets wait parks at once.
+//! it parks. A yield lets the other side run if it waits for the same processor. But if other work fills all
+//! processors, a side that has yielded gets its own back only after that work's turn, milliseconds later. Then calls
+//! don't follow fast any more, and the side parks after a few looks, without a yield, until they have followed fast for
+//! a while. A lane whose call the keeper lets wait parks at once.
 //!
-//! Before the look after which it may park it says that it sleeps, and the other side gives its token only then. No
-//! token is lost, since all loads and stores have one order, those of the rings too, which the ported `rtrb` makes so:
-//! a side stores the flag, looks, and parks; the other side pushes or takes something, and loads the flag. If
+//! Before the look after which it may park a side sets the flag that it sleeps, and the other side gives its token only
+//! then. No token is lost, since all loads and stores have one order, those of the rings too, which the ported `rtrb`
+//! ensures: a side stores the flag, looks, and parks; the other side pushes or takes something, and loads the flag. If
 //! the look came before the push, so did the store, and the load finds the flag set: the token is given, and ends the
 //! park, even one that begins later. If the look came after the push, it has found what was pushed; at a lane at rest
-//! the keeper looks at its notice, which comes before the load too (`poll_set.rt`). A token that nobody needed ends one
+//! the keeper looks at its notice, which comes before the load too (`poll_set.rt`). A token that wasn't needed ends one
 //! park too early, after which the side looks again.
 use crate::call_rate::CallRate;
 use crossbeam_utils::sync::{Parker, Unparker};
@@ -22,16 +22,17 @@ use std::time::{Clock, Duration, Instant};
 use std::{hint, thread};
 use xs_stream::Moment;
 
-/// How many looks that find nothing are made one right after the other while calls follow fast.
+/// The number of looks that find nothing, one right after the other, while calls follow fast.
 const SPINS: u32 = 96;
 
 /// The same while they don't: a call that comes later than these looks costs a wake-up in any case.
 const FEW_SPINS: u32 = 8;
 
-/// How many more a lane makes while calls follow fast, each after the processor was yielded: its answer is on its way.
+/// The number of further looks of a lane while calls follow fast, each after the processor was yielded: its answer is
+/// on its way.
 const YIELDS_OF_LANE: u32 = 10;
 
-/// The same of the keeper: its next call comes from a client, who may be behind a socket.
+/// The same for the keeper: its next call comes from a client, which may be behind a socket.
 const YIELDS_OF_KEEPER: u32 = 100;
 
 /// The calls of a lane follow fast if each comes within milliseconds of the one before.
@@ -43,17 +44,17 @@ const BATCH_OF_KEEPER: u32 = 16;
 /// How one side waits: it looks again, then yields the processor, then parks.
 #[derive(Drop)]
 pub(crate) struct Backoff {
-    // Looks that found nothing, one after the other, with the one begun; at most `last_look`.
+    // The number of looks that found nothing, one after the other, including the one begun; at most `last_look`.
     looks: u32,
     // The look after which it parks.
     last_look: u32,
     sleeps: Arc<AtomicBool>,
     parker: Parker,
-    // Of the calls that this side serves or takes the answers to.
+    // The rate of the calls that this side serves, or whose answers it takes.
     call_rate: CallRate,
 }
 
-/// What wakes the other side: an idle keeper, or a lane.
+/// Wakes the other side: an idle keeper, or a lane.
 #[derive(Drop)]
 pub struct Waker {
     sleeps: Arc<AtomicBool>,
@@ -89,7 +90,7 @@ impl Backoff {
         Ok(Waker { sleeps, unparker })
     }
 
-    /// Begins a look. It stands before the look itself.
+    /// Begins a look. It has to be called before the look itself.
     pub fn begin_look(&mut self) {
         if self.looks < self.last_look {
             self.looks += 1;
@@ -114,7 +115,7 @@ impl Backoff {
         self.call_rate.call_at(moment);
     }
 
-    /// From here on looks that find nothing are counted anew.
+    /// Begins again to count looks that find nothing.
     pub fn begin_anew(&mut self) {
         if self.may_sleep() {
             self.sleeps.store(false, Ordering::SeqCst);
@@ -127,7 +128,7 @@ impl Backoff {
         self.looks == self.last_look
     }
 
-    /// Waits a little where the look has found nothing; after the last look it waits for the token.
+    /// Waits a little after a look that has found nothing; after the last look it waits for the token.
     pub fn snooze<R: Wait>(&self, rt: &R) {
         if self.may_sleep() {
             self.parker.park(rt);
@@ -138,7 +139,7 @@ impl Backoff {
         }
     }
 
-    /// Waits as `snooze` does, for the token only up to the deadline, if there is one.
+    /// Waits like `snooze`, but for the token at most up to the deadline, if there is one.
     pub fn snooze_until<R: Wait + Clock>(&self, rt: &R, deadline: Option<Instant>) {
         match deadline {
             Some(deadline) if self.may_sleep() => self.parker.park_deadline(rt, deadline),
@@ -146,7 +147,7 @@ impl Backoff {
         }
     }
 
-    /// Waits as `snooze` does, for the token only so long. It says whether so much time has passed.
+    /// Waits like `snooze`, but for the token at most for this time. Returns whether that time has passed.
     pub fn snooze_for<R: Wait + Clock>(&self, rt: &R, time: Duration) -> bool {
         if !self.may_sleep() {
             self.snooze(rt);

@@ -1,4 +1,4 @@
-//! A folder is compacted: a snapshot stands for its closed logs, which are removed.
+//! Compacts a folder: a snapshot replaces its closed logs, which are removed.
 ghost use Rattle.std.specs.Prelude.{◌≡◌, ℕ, List, Option, IfOk};
 ghost use Rattle.xs_keys.specs.Content.{Content};
 ghost use Rattle.xs_keys.specs.Event.{Event};
@@ -21,16 +21,16 @@ use std::sync::Arc;
 use xs_log::{Recovered, read_closed_logs};
 use xs_snapshot::write_snapshot;
 
-/// What a compaction has done.
+/// The result of a compaction.
 #[derive(Clone, Copy, Debug, PartialEq, Eq)]
 pub struct Compaction {
     /// The number of the snapshot.
     pub number: u64,
-    /// How many logs it stands for that were there.
+    /// The number of logs that it replaces.
     pub logs: u64,
 }
 
-/// What the greatest snapshot and the closed logs behind it have left.
+/// The content after the greatest snapshot and the closed logs from its number on.
 fn read_closed<R: Files<File = File> + Copy + Drop>(
     rt: &R,
     alloc: Global,
@@ -53,7 +53,7 @@ fn read_closed<R: Files<File = File> + Copy + Drop>(
     }
 }
 
-/// Writes a snapshot of what was recovered, under the name of one that isn't whole.
+/// Writes a snapshot of what was recovered, under the name of an unfinished one.
 fn write_new<R: Files<File = File>>(
     rt: &R,
     alloc: Global,
@@ -74,7 +74,7 @@ fn write_new<R: Files<File = File>>(
     }
 }
 
-/// Gives a snapshot that is whole its name, which is kept.
+/// Gives a complete snapshot its name, which is kept.
 fn publish<R: Files<File = File>>(
     rt: &R,
     alloc: Global,
@@ -99,7 +99,7 @@ fn publish<R: Files<File = File>>(
     }
 }
 
-/// Makes the snapshot that stands for the closed logs of a folder. If that fails nothing unfinished is left.
+/// Makes the snapshot that replaces the closed logs of a folder. If that fails, nothing unfinished is left.
 fn make_snapshot<R: Files<File = File> + Copy + Drop>(
     rt: &R,
     alloc: Global,
@@ -119,7 +119,7 @@ fn make_snapshot<R: Files<File = File> + Copy + Drop>(
     made
 }
 
-/// Compacts a folder that nobody else compacts, and that has this.
+/// Compacts a folder with this listing. Nobody else may be compacting it.
 fn compact_listed<R: Files<File = File> + Copy + Drop>(
     rt: &R,
     alloc: Global,
@@ -144,7 +144,7 @@ fn compact_listed<R: Files<File = File> + Copy + Drop>(
     }))
 }
 
-/// Locks a folder for a compaction, and lists what it has then.
+/// Locks a folder for a compaction, and lists it then.
 fn lock_and_list<R: Files<File = File> + AllocGlobal + Copy + Drop>(
     rt: &R,
     folder: &str,
@@ -154,12 +154,12 @@ fn lock_and_list<R: Files<File = File> + AllocGlobal + Copy + Drop>(
     Ok((lock, listing))
 }
 
-/// Compacts a folder of logs, which a server may be using: a snapshot of what its closed logs have left is written, from
-/// the greatest snapshot and the closed logs behind it, and once it is kept they are removed. The last log is neither
-/// read nor changed. It gives None if no log is closed. The progress tells how many bytes were read.
+/// Compacts a folder of logs, which a server may be using: a snapshot of the content after the greatest snapshot and
+/// the closed logs from its number on is written, and once it is kept they are removed. The last log is neither read
+/// nor changed. Returns None if no log is closed. `progress` counts the bytes that were read.
 ///
 /// # Errors
-/// A `FolderFault`: `Compacting` if somebody else does that. No log was removed then.
+/// A `FolderFault`: `Compacting` if another process compacts the folder. No log was removed then.
 pub fn compact_folder<R: Files<File = File> + AllocGlobal + Copy + Drop>(
     rt: &R,
     folder: &str,
@@ -169,7 +169,7 @@ pub fn compact_folder<R: Files<File = File> + AllocGlobal + Copy + Drop>(
     compact_listed(rt, rt.alloc(), folder, listing, progress)
 }
 
-/// The same, but only if it is due. It gives None if it isn't.
+/// Like `compact_folder`, but only if a compaction is due. Returns None if it isn't.
 ///
 /// # Errors
 /// Those of `compact_folder`.

@@ -1,21 +1,21 @@
-//! What is told of the compactions of a folder.
+//! The state of the compactions of a folder.
 use crate::compaction::Compaction;
 use crate::fault::FolderFault;
 use std::sync::atomic::{AtomicBool, AtomicU64, Ordering};
 
-/// What is told of the compactions of a folder. Who compacts it writes this, and any thread may read it.
+/// The state of the compactions of a folder. The thread that compacts the folder writes it, and any thread may read it.
 #[derive(Drop)]
 pub struct CompactionState {
     is_running: AtomicBool,
-    // The last compaction has failed.
+    // Whether the last compaction has failed.
     has_failed: AtomicBool,
-    // The folder couldn't be listed.
+    // Whether the folder couldn't be listed.
     is_unlisted: AtomicBool,
     snapshot: AtomicU64,
 }
 
 impl CompactionState {
-    /// Nothing was compacted, and no snapshot read.
+    /// The state before any compaction, with no snapshot read.
     pub fn new() -> CompactionState {
         CompactionState {
             is_running: AtomicBool::new(false),
@@ -25,17 +25,17 @@ impl CompactionState {
         }
     }
 
-    /// The snapshot with this number was read, or none if it is 0.
+    /// Notes that the snapshot with this number was read; 0 for none.
     pub fn reads(&self, number: u64) {
         self.snapshot.store(number, Ordering::SeqCst);
     }
 
-    /// A compaction begins.
+    /// Notes that a compaction begins.
     pub(crate) fn begins(&self) {
         self.is_running.store(true, Ordering::SeqCst);
     }
 
-    /// A compaction has come to this; None if there was nothing to do.
+    /// Notes the result of a compaction; None if there was nothing to do.
     pub(crate) fn ends(&self, done: &Result<Option<Compaction>, FolderFault>) {
         if let Ok(Some(made)) = done {
             self.snapshot.store(made.number, Ordering::SeqCst);
@@ -44,7 +44,7 @@ impl CompactionState {
         self.is_running.store(false, Ordering::SeqCst);
     }
 
-    /// The folder could be listed, or not. It says whether it couldn't be before.
+    /// Notes whether the folder could be listed. Returns whether it couldn't be before.
     pub(crate) fn lists(&self, is_listed: bool) -> bool {
         self.is_unlisted.swap(!is_listed, Ordering::SeqCst)
     }

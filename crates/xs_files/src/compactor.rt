@@ -1,4 +1,4 @@
-//! A folder is compacted again and again, each time that it is due.
+//! Compacts a folder each time that a compaction is due.
 ghost use Rattle.std.specs.Prelude.{◌≡◌, ◌≢◌, ◌↔◌, IsTrue};
 
 use crate::compaction::{Compaction, compact_if_due};
@@ -19,19 +19,19 @@ pub enum CompactPolicy {
     Serving,
     /// At its start, if it is due then.
     Start,
-    /// Never: another process does it, or nobody.
+    /// Never: another process does it, or none.
     Never,
 }
 
-/// The number of the last log when a folder was last looked at; 0 if it wasn't.
+/// The number of the last log when a folder was last checked; 0 if it wasn't.
 #[derive(Clone, Copy, Debug, PartialEq, Eq)]
 struct LastLook {
     number: u64,
 }
 
 impl LastLook {
-    /// Looks at a folder whose last log has this number, and says whether a log was closed since the last look. If not,
-    /// nothing is due that wasn't then, and what was refused then isn't tried again.
+    /// Notes the number of the last log, and returns whether a log was closed since the last check. If not, no
+    /// compaction is due that wasn't then, and one that was refused then isn't tried again.
     fn is_news(&mut self, number: u64) -> bool
         ensures news { IsTrue result ↔ (number ≢ self.old.number) }
         ensures kept { self.new.number ≡ number }
@@ -42,7 +42,7 @@ impl LastLook {
     }
 }
 
-/// Compacts a folder each time that it is due and it is asked.
+/// Compacts a folder when it is called and a compaction is due.
 #[derive(Drop)]
 pub struct Compactor {
     alloc: Global,
@@ -53,7 +53,7 @@ pub struct Compactor {
 }
 
 impl Compactor {
-    /// Of this folder. The progress tells how many bytes were read.
+    /// A compactor of this folder. `progress` counts the bytes that were read.
     pub fn new(
         alloc: Global,
         folder: &str,
@@ -73,12 +73,12 @@ impl Compactor {
         self.folder.as_str()
     }
 
-    /// What is told of its compactions.
+    /// The state of its compactions.
     pub fn state(&self) -> Result<Arc<CompactionState>, AllocError> {
         Arc::try_clone(&self.state)
     }
 
-    /// Whether a compaction of the folder, which has this, is due.
+    /// Whether a compaction of the folder with this listing is due.
     fn is_due_with<R: Files<File = File> + AllocGlobal + Copy + Drop>(
         &self,
         rt: &R,
@@ -88,10 +88,11 @@ impl Compactor {
         Ok(sizes.is_due())
     }
 
-    /// Whether a compaction is due, and a log was closed since the last call: then `compact` is to be called, once.
+    /// Whether a compaction is due and a log was closed since the last call: then `compact` is to be called, once.
     ///
     /// # Errors
-    /// A `FolderFault`, once: the next call that looks is that behind the next log, or once the folder can be listed.
+    /// A `FolderFault`, reported once: the folder is checked again after the next log was closed, or once it can be
+    /// listed.
     pub fn is_due<R: Files<File = File> + AllocGlobal + Copy + Drop>(
         &mut self,
         rt: &R,
@@ -114,8 +115,8 @@ impl Compactor {
         is_due
     }
 
-    /// Compacts the folder, unless somebody else just did: then it gives None. The last log isn't touched, so a server may
-    /// use the folder.
+    /// Compacts the folder, unless another process just did: then it returns None. The last log isn't touched, so a
+    /// server may use the folder.
     ///
     /// # Errors
     /// A `FolderFault`, and nothing was removed.

@@ -9,10 +9,10 @@ use std::fs;
 use std::io::ErrorKind;
 use std::rt::Files;
 
-/// Closed logs of so many bytes, 64 MiB, are no reason for a compaction.
+/// Closed logs of this many bytes, 64 MiB, don't cause a compaction.
 const LEAST_CLOSED: u64 = 67_108_864;
 
-/// How many bytes a compaction would read.
+/// The number of bytes that a compaction would read.
 #[derive(Clone, Copy, Debug, PartialEq, Eq)]
 pub struct Sizes {
     /// Of the greatest snapshot; 0 if there is none.
@@ -31,7 +31,7 @@ impl Sizes {
     }
 }
 
-/// How many bytes the file of a path has. None if it isn't there.
+/// The size of the file of a path. None if there is no file.
 fn file_size<R: Files>(
     rt: &R,
     path: Result<String, AllocError>,
@@ -46,10 +46,11 @@ fn file_size<R: Files>(
     }
 }
 
-/// How many bytes a compaction would read. Of what somebody else's compaction removes meanwhile nothing is counted.
+/// The number of bytes that a compaction would read. Files that another process's compaction removes meanwhile aren't
+/// counted.
 ///
 /// # Errors
-/// A `FolderFault`: out of memory, or the system refuses to tell a file's size.
+/// A `FolderFault`: out of memory, or the system doesn't give a file's size.
 pub fn sizes_of<R: Files>(
     rt: &R,
     alloc: Global,

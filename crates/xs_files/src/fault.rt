@@ -3,19 +3,19 @@ use std::io::ErrorKind;
 use thiserror::Error;
 use xs_log::{LogsFault, SnapshotFault, WriteFault};
 
-/// Why a folder of logs isn't opened. The text is to stand behind the folder's name and a colon.
+/// Why a folder of logs isn't opened. The text is to follow the folder's name and a colon.
 #[derive(Clone, Copy, Debug, PartialEq, Eq, Error)]
 pub enum FolderFault {
     /// Out of memory.
     #[error("out of memory")]
     Memory,
-    /// There is no folder to make it in.
+    /// The folder in which it would be made is missing.
     #[error("the folder above it isn't there")]
     NoParent,
-    /// There is something else of its name.
+    /// Its name is that of something else.
     #[error("it is no folder")]
     NoFolder,
-    /// There is a symbolic link of its name.
+    /// Its name is that of a symbolic link to nothing.
     #[error("it is a link to nothing")]
     LinkToNothing,
     /// The system refuses to read it.
@@ -27,16 +27,16 @@ pub enum FolderFault {
     /// Another server has its lock.
     #[error("another server uses it")]
     InUse,
-    /// Somebody else makes a snapshot.
+    /// Another process makes a snapshot.
     #[error("it is being compacted")]
     Compacting,
-    /// There is something else of a lock's name.
+    /// The name of a lock is that of something else.
     #[error("{0} is no file")]
     NoLockFile(&'static str),
-    /// There is a log with a greater number.
+    /// This log is missing, though there is one with a greater number.
     #[error("log-{0} is missing")]
     Missing(u64),
-    /// There is something else of the log's name.
+    /// The name of the log is that of something else.
     #[error("log-{0} is no file")]
     NoFile(u64),
     /// The system refuses to read a log.
@@ -45,10 +45,10 @@ pub enum FolderFault {
     /// The system refuses to write a log.
     #[error("log-{number} can't be written: {kind}")]
     UnwritableLog { number: u64, kind: ErrorKind },
-    /// What a log has isn't what was written.
+    /// The content of a log isn't as it was written.
     #[error("{0}")]
     Log(LogsFault),
-    /// There is something else of the greatest snapshot's name.
+    /// The name of the greatest snapshot is that of something else.
     #[error("snapshot-{0} is no file")]
     NoSnapshotFile(u64),
     /// A snapshot isn't read.
@@ -57,10 +57,10 @@ pub enum FolderFault {
     /// A snapshot isn't written.
     #[error("snapshot-{number} {fault}")]
     NewSnapshot { number: u64, fault: WriteFault },
-    /// The system refuses to make a snapshot's file, or to name it.
+    /// The system refuses to make the file of a snapshot, or to name it.
     #[error("snapshot-{number} can't be made: {kind}")]
     UnmadeSnapshot { number: u64, kind: ErrorKind },
-    /// The log that is to be gone on with failed.
+    /// The log that would be continued failed.
     #[error("log-{0} can't be written")]
     Broken(u64),
 }

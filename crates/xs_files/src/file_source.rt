@@ -1,5 +1,4 @@
-//! A log or a snapshot that is read. Its file is opened at the first read, so that not all files of a folder are open at
-//! once.
+//! Reads a log or a snapshot. Its file is opened at the first read, so not all files of a folder are open at once.
 ghost use Rattle.std.specs.Prelude.{◌≡◌, ◌≤◌, None, length, IfOk};
 
 use crate::progress::Progress;
@@ -34,7 +33,7 @@ fn read_from(file: &mut File, into: &mut [u8]) -> Result<usize, Failed>
 }
 
 impl<R: Files<File = File> + Copy + Drop> FileSource<R> {
-    /// The file with a path, which isn't opened yet.
+    /// The source of a file with this path, which isn't opened yet.
     pub fn new(rt: &R, path: String, progress: Arc<Progress>) -> Self {
         Self {
             rt: *rt,

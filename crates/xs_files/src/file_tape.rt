@@ -1,4 +1,4 @@
-//! The files of a folder as a tape. That they are one is trusted: no contract can say what a file holds.
+//! The files of a folder as a tape. This is trusted: no contract can refer to the content of a file.
 ghost use Rattle.std.specs.Prelude.{◌≡◌, None, false, is_err, IfOk};
 
 use crate::folder::{FolderLock, sync_folder};
@@ -17,19 +17,19 @@ pub struct FileTape<R: Files<File = File> + Copy + Drop> {
     rt: R,
     alloc: Global,
     folder: String,
-    // It is held as long as the tape.
+    // Held as long as the tape.
     lock: FolderLock,
     file: File,
     number: u64,
     size: u64,
     policy: SyncPolicy,
-    // The last file was synced since it was made or opened.
+    // Whether the last file was synced since it was made or opened.
     was_synced: bool,
     beside: Arc<Beside>,
     broken: bool,
 }
 
-/// Makes a log's file, whose name is kept.
+/// Makes the file of a log, whose name is kept.
 pub fn make_log<R: Files<File = File>>(
     rt: &R,
     alloc: Global,
@@ -53,7 +53,7 @@ pub fn make_log<R: Files<File = File>>(
 }
 
 impl<R: Files<File = File> + Copy + Drop> FileTape<R> {
-    /// The tape whose last file, open to be appended to, has this number and so many bytes.
+    /// The tape whose last file has this number and this size, and is open to be appended to.
     pub fn new(
         rt: &R,
         alloc: Global,
@@ -82,7 +82,7 @@ impl<R: Files<File = File> + Copy + Drop> FileTape<R> {
         })
     }
 
-    /// What syncs beside it, if its policy asks for that.
+    /// A syncer for this tape, if its policy needs one.
     pub fn syncer(&self) -> Result<Option<Syncer>, AllocError> {
         match self.policy {
             SyncPolicy::EachSecond => {
@@ -109,7 +109,8 @@ impl<R: Files<File = File> + Copy + Drop> Tape for FileTape<R> {
     }
 
     fn sync(&mut self) -> Result<(), TapeFailed> {
-        // The first time whatever the policy: a crash that loses a header, and not what is behind it, leaves no log.
+        // The first time whatever the policy: a log from which a crash takes the header but not what follows can't be
+        // read.
         let syncs = self.policy == SyncPolicy::Always || !self.was_synced;
         if syncs && self.file.sync_data().is_err() {
             self.broken = true;

@@ -19,7 +19,7 @@ pub fn sync_folder<R: Files<File = File>>(rt: &R, folder: &str) -> Result<(), Er
     }
 }
 
-/// The folder above.
+/// The parent folder.
 fn above(folder: &str) -> &str {
     match Path::new(folder).parent() {
         Some(parent) if !parent.as_str().is_empty() => parent.as_str(),
@@ -54,7 +54,7 @@ fn make_if_missing<R: Files<File = File>>(rt: &R, folder: &str) -> Result<(), Fo
     }
 }
 
-/// Whether a path leads to something else than a file. An open of that might wait.
+/// Whether a path leads to something other than a file. Opening that might wait.
 pub fn is_no_file<R: Files>(rt: &R, path: &str) -> bool {
     match fs::metadata(rt, path) {
         Ok(found) => !found.is_file(),
@@ -62,7 +62,7 @@ pub fn is_no_file<R: Files>(rt: &R, path: &str) -> bool {
     }
 }
 
-/// Opens a file of a folder that is there to be locked. It is made if it is missing.
+/// Opens the file of a lock in a folder that exists. It is made if it is missing.
 fn open_lock<R: Files<File = File>>(
     rt: &R,
     alloc: Global,
@@ -85,7 +85,7 @@ fn open_lock<R: Files<File = File>>(
     }
 }
 
-/// Takes a lock unless somebody has it.
+/// Takes a lock. The fault is `taken` if another process has it.
 fn try_lock(file: File, taken: FolderFault) -> Result<File, FolderFault> {
     match file.try_lock() {
         Ok(()) => Ok(file),
@@ -94,16 +94,16 @@ fn try_lock(file: File, taken: FolderFault) -> Result<File, FolderFault> {
     }
 }
 
-/// The lock of a folder. The system gives it back when this is dropped.
+/// The lock of a folder. The system releases it when this is dropped.
 #[derive(Drop)]
 pub struct FolderLock {
     file: File,
 }
 
-/// Makes a folder if only it is missing, and locks it: no other server opens it until the lock is dropped.
+/// Makes a folder if only it is missing, and locks it: no other server can open it until the lock is dropped.
 ///
 /// # Errors
-/// A `FolderFault`: `InUse` if another server has it. Nothing in it was changed then.
+/// A `FolderFault`: `InUse` if another server has the lock. Nothing in the folder was changed then.
 pub fn lock_folder<R: Files<File = File> + AllocGlobal>(
     rt: &R,
     folder: &str,
@@ -115,7 +115,7 @@ pub fn lock_folder<R: Files<File = File> + AllocGlobal>(
     })
 }
 
-/// Takes the lock of compaction, which removes files. The system gives it back when the file is closed.
+/// Takes the lock of compaction, which removes files. The system releases it when the file is closed.
 pub fn take_compaction_lock<R: Files<File = File>>(
     rt: &R,
     alloc: Global,
@@ -127,7 +127,7 @@ pub fn take_compaction_lock<R: Files<File = File>>(
     )
 }
 
-/// Waits until nobody compacts a folder, and keeps others from it until the file is closed.
+/// Waits until no process compacts a folder, and keeps others from it until the file is closed.
 pub fn wait_for_compaction<R: Files<File = File>>(
     rt: &R,
     alloc: Global,

@@ -7,13 +7,13 @@ use std::io::{ErrorKind, Read};
 use std::rt::Files;
 use xs_log::{LogFault, LogsFault};
 
-/// A crash leaves no more bytes of a log that has no whole header.
+/// The most bytes that a crash can leave of a log without a complete header.
 const SHORT: u64 = 4_096;
 
-/// What each header begins with: `#` stands for a digit of its size.
+/// The beginning of each header: `#` is a digit of its size.
 const BEGINNING: &[u8] = b"*6\r\n$2\r\n##\r\n$6\r\nxs-log\r\n";
 
-/// Whether the byte at a place of a file may be one of a header, or zero.
+/// Whether the byte at a place of a file can be one of a header, or zero.
 fn may_stand(at: usize, byte: u8) -> bool {
     if byte == 0 {
         return true;
@@ -52,7 +52,8 @@ fn first_bytes<R: Files<File = File>>(
     }
 }
 
-/// A log without a whole header isn't cut if a crash can't have left it: it would be another program's.
+/// Checks that a crash can have left a log without a complete header. If not, it would be another program's, and isn't
+/// cut.
 fn check_headless<R: Files<File = File>>(
     rt: &R,
     alloc: Global,
@@ -70,7 +71,7 @@ fn check_headless<R: Files<File = File>>(
     }
 }
 
-/// Cuts a file behind so many bytes, and has the system keep that.
+/// Cuts a file after `whole` bytes, and has the system keep that.
 fn cut(file: &File, size: u64, whole: u64) -> Result<(), ErrorKind> {
     if size == whole {
         return Ok(());
@@ -96,7 +97,7 @@ fn open_log<R: Files<File = File>>(rt: &R, path: &str) -> Result<(File, u64), Er
     }
 }
 
-/// Opens the log with a number to be appended to, and cuts it behind so many bytes.
+/// Opens the log with a number to be appended to, and cuts it after its complete records.
 pub fn open_last<R: Files<File = File>>(
     rt: &R,
     alloc: Global,

@@ -1,4 +1,4 @@
-//! Which logs and snapshots a folder has.
+//! The logs and snapshots in a folder.
 ghost use Rattle.std.specs.Prelude.{◌<◌};
 
 use crate::fault::FolderFault;
@@ -9,21 +9,21 @@ use std::fs::{self, File};
 use std::io::ErrorKind;
 use std::rt::Files;
 
-/// What a folder has. Each number is 0 if there is none.
+/// The contents of a folder. Each number is 0 if there is none.
 #[derive(Clone, Copy, Debug, PartialEq, Eq)]
 pub struct Listing {
-    /// The number of the greatest snapshot: it stands for the logs below it.
+    /// The number of the greatest snapshot: it replaces the logs below it.
     pub snapshot: u64,
     /// The number of the last log.
     pub last: u64,
     /// The least number of a log or of a snapshot.
     pub least: u64,
-    /// The greatest number of a snapshot that isn't whole.
+    /// The greatest number of a snapshot that isn't complete.
     pub unfinished: u64,
 }
 
 impl Listing {
-    /// Of an empty folder.
+    /// The listing of an empty folder.
     fn new() -> Listing {
         Listing {
             snapshot: 0,
@@ -40,7 +40,7 @@ impl Listing {
         self.snapshot.max(1)
     }
 
-    /// With the file of this name, if it is a log's or a snapshot's.
+    /// With the file of this name, if it is a log or a snapshot.
     fn with_name(self, name: &str) -> Listing {
         if let Some(number) = log_number(name) {
             return Listing {
@@ -66,7 +66,7 @@ impl Listing {
     }
 }
 
-/// The lesser of two numbers, of which the first is 0 if there is none.
+/// The lesser of two numbers; `number` if the first is 0, which is none.
 fn least_of(least: u64, number: u64) -> u64 {
     if least == 0 {
         number
@@ -75,7 +75,7 @@ fn least_of(least: u64, number: u64) -> u64 {
     }
 }
 
-/// What is in a folder. Names that are no text are no logs'.
+/// Lists a folder. Names that aren't text aren't those of logs.
 pub fn list<R: Files + AllocGlobal + Copy + Drop>(
     rt: &R,
     folder: &str,
@@ -95,7 +95,7 @@ pub fn list<R: Files + AllocGlobal + Copy + Drop>(
     Ok(listing)
 }
 
-/// Whether the log with a number is a file.
+/// Checks that the log with a number is a file.
 fn check_log<R: Files>(
     rt: &R,
     alloc: Global,
@@ -116,7 +116,7 @@ fn check_log<R: Files>(
     }
 }
 
-/// Whether the snapshot with a number is a file, if there is one.
+/// Checks that the snapshot with a number, if there is one, is a file.
 fn check_snapshot<R: Files>(
     rt: &R,
     alloc: Global,
@@ -135,7 +135,8 @@ fn check_snapshot<R: Files>(
     Ok(())
 }
 
-/// What is in a folder. Its greatest snapshot is a file, and so are its logs from there on, which count up.
+/// Lists a folder. Its greatest snapshot has to be a file, and so do its logs from there on, whose numbers have to
+/// count up.
 pub fn list_whole<R: Files<File = File> + AllocGlobal + Copy + Drop>(
     rt: &R,
     folder: &str,

@@ -6,16 +6,16 @@ use xs_bytes::natural;
 /// The name of the file that a server locks.
 pub const LOCK: &str = "lock";
 
-/// The name of the file that whoever makes a snapshot locks, and whoever reads the folder at a start.
+/// The name of the file that is locked by a process that makes a snapshot, or reads the folder at a start.
 pub const COMPACTING: &str = "compacting";
 
-/// What the name of a log begins with.
+/// The beginning of a log's name.
 const LOG: &str = "log-";
 
-/// What the name of a snapshot begins with.
+/// The beginning of a snapshot's name.
 const SNAPSHOT: &str = "snapshot-";
 
-/// What the name of a snapshot that isn't whole yet ends with.
+/// The end of the name of a snapshot that isn't complete yet.
 const NEW: &str = ".new";
 
 /// The path of a file in a folder.
@@ -49,14 +49,14 @@ pub fn snapshot_path(alloc: Global, folder: &str, number: u64) -> Result<String,
     numbered_path(alloc, folder, SNAPSHOT, number)
 }
 
-/// The path of the snapshot with a number while it isn't whole.
+/// The path of the snapshot with a number while it isn't complete.
 pub fn new_snapshot_path(alloc: Global, folder: &str, number: u64) -> Result<String, AllocError> {
     let mut path = snapshot_path(alloc, folder, number)?;
     path.push_str(NEW)?;
     Ok(path)
 }
 
-/// The number behind the beginning of a name. None has 0.
+/// The number after the beginning of a name. It is never 0.
 fn number_behind(name: &str, kind: &str) -> Option<u64> {
     let digits = name.strip_prefix(kind)?;
     match natural(digits.as_bytes()) {
@@ -75,7 +75,7 @@ pub fn snapshot_number(name: &str) -> Option<u64> {
     number_behind(name, SNAPSHOT)
 }
 
-/// The number of the snapshot with a name that isn't whole yet.
+/// The number of the snapshot with a name that isn't complete yet.
 pub fn new_snapshot_number(name: &str) -> Option<u64> {
     snapshot_number(name.strip_suffix(NEW)?)
 }

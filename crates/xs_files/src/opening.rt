@@ -1,4 +1,4 @@
-//! A folder of logs is opened, and what its logs leave is recovered.
+//! Opens a folder of logs, and recovers the content after their events.
 ghost use Rattle.std.specs.Prelude.{◌≡◌, ℕ, List, Option, false, length, IfOk};
 ghost use Rattle.xs_keys.specs.Event.{Event};
 ghost use Rattle.xs_replay.specs.After.{contents_after};
@@ -23,10 +23,10 @@ use xs_log::{Extent, Recovered, TapeLog, recover};
 use xs_replay::EventLog;
 use xs_stream::Moment;
 
-/// A log with so many bytes, 64 MiB, is closed, and the next one begun.
+/// A log with at least this many bytes, 64 MiB, is closed, and the next one begun.
 const FULL: u64 = 67_108_864;
 
-/// What a folder of logs gives.
+/// A folder of logs that was opened.
 #[derive(Drop)]
 pub struct OpenedFolder<R: Files<File = File> + Copy + Drop> {
     /// The number of the snapshot that was read, or 0.
@@ -37,15 +37,15 @@ pub struct OpenedFolder<R: Files<File = File> + Copy + Drop> {
     pub keyspace: Keyspace,
     /// The moment of the last event, if there is one.
     pub last: Option<Moment>,
-    /// How many events there are.
+    /// The number of events in the logs that were read.
     pub records: u64,
-    /// How many bytes of an unfinished record were cut.
+    /// The number of bytes of an unfinished record that were cut.
     pub dropped: u64,
-    /// The log that events are noted in from now on.
+    /// The log in which further events are noted.
     pub log: TapeLog<FileTape<R>>,
 }
 
-/// What the logs of a folder leave of what was there at the start.
+/// The content of a start after the events of the logs of a folder.
 fn recover_logs<R: Files<File = File> + Copy + Drop>(
     rt: &R,
     alloc: Global,
@@ -67,7 +67,7 @@ fn recover_logs<R: Files<File = File> + Copy + Drop>(
     recover(alloc, first, start, closed, last).map_err(FolderFault::Log)
 }
 
-/// The last log, to be gone on with.
+/// Opens the last log to continue it.
 fn go_on<R: Files<File = File> + Copy + Drop>(
     rt: &R,
     alloc: Global,
@@ -122,12 +122,12 @@ fn begin_first<R: Files<File = File> + Copy + Drop>(
     })
 }
 
-/// Opens a folder of logs, whose lock this is. Its greatest snapshot is read, and the logs behind it, which the progress
-/// tells meanwhile, and what a crash has torn of the last one is cut. If the folder is being compacted, this waits for
-/// that.
+/// Opens a folder of logs, whose lock this is. Its greatest snapshot is read, and the logs from its number on;
+/// `progress` counts the bytes meanwhile. What a crash has torn of the last log is cut. If the folder is being
+/// compacted, this waits for the end of that.
 ///
 /// # Errors
-/// A `FolderFault`, and no byte of a log was changed but behind the whole records of the last one.
+/// A `FolderFault`, and no byte of a log was changed but after the complete records of the last one.
 pub fn open_folder<R: Files<File = File> + AllocGlobal + Copy + Drop>(
     rt: &R,
     folder: &str,

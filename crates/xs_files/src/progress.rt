@@ -1,7 +1,7 @@
 //! How far the logs of a folder are read.
 use std::sync::atomic::{AtomicU64, Ordering};
 
-/// How many bytes of the logs of a folder were read. Another thread may look at it meanwhile.
+/// The number of bytes of the logs of a folder that were read. Another thread may read it meanwhile.
 #[derive(Drop)]
 pub struct Progress {
     bytes: AtomicU64,
@@ -15,12 +15,12 @@ impl Progress {
         }
     }
 
-    /// So many more bytes were read.
+    /// Adds to the number of bytes that were read.
     pub(crate) fn add(&self, count: usize) {
         self.bytes.fetch_add(count as u64, Ordering::SeqCst);
     }
 
-    /// How many bytes were read.
+    /// The number of bytes that were read.
     pub fn bytes(&self) -> u64 {
         self.bytes.load(Ordering::SeqCst)
     }

@@ -1,4 +1,4 @@
-//! What the greatest snapshot of a folder has, and the logs behind it.
+//! The content of the greatest snapshot of a folder, and the sources of the logs from its number on.
 ghost use Rattle.std.specs.Prelude.{IfOk};
 ghost use Rattle.xs_files.specs.Start.{IsStart};
 
@@ -13,7 +13,7 @@ use std::sync::Arc;
 use xs_log::Recovered;
 use xs_snapshot::read_snapshot;
 
-/// What the snapshot with a number has, or nothing if the number is 0.
+/// The content of the snapshot with a number; an empty one if the number is 0.
 pub fn read_start<R: Files<File = File> + Copy + Drop>(
     rt: &R,
     alloc: Global,
@@ -35,7 +35,7 @@ pub fn read_start<R: Files<File = File> + Copy + Drop>(
     }
 }
 
-/// The file of this path.
+/// The source of the file with this path.
 fn source<R: Files<File = File> + Copy + Drop>(
     rt: &R,
     path: Result<String, AllocError>,
@@ -44,7 +44,7 @@ fn source<R: Files<File = File> + Copy + Drop>(
     Ok(FileSource::new(rt, path?, Arc::try_clone(progress)?))
 }
 
-/// The file of the log with a number.
+/// The source of the log with a number.
 pub fn log_source<R: Files<File = File> + Copy + Drop>(
     rt: &R,
     alloc: Global,
@@ -55,7 +55,7 @@ pub fn log_source<R: Files<File = File> + Copy + Drop>(
     source(rt, log_path(alloc, folder, number), progress)
 }
 
-/// The files of the logs from a number on, up to another one, which isn't among them.
+/// The sources of the logs from a number on, below another one.
 pub fn log_sources<R: Files<File = File> + Copy + Drop>(
     rt: &R,
     alloc: Global,

@@ -1,25 +1,25 @@
-//! Files that no start reads are removed.
+//! Removes files that no start reads.
 use crate::listing::Listing;
 use crate::names::{log_path, new_snapshot_path, snapshot_path};
 use std::alloc::{AllocError, Global};
 use std::fs;
 use std::rt::Files;
 
-/// Removes a file. If it can't be, it stays: no start reads it.
+/// Removes a file. If that fails, the file stays: no start reads it.
 fn remove<R: Files>(rt: &R, path: Result<String, AllocError>) {
     if let Ok(path) = path {
         let _ = fs::remove_file(rt, path.as_str());
     }
 }
 
-/// Removes what a compaction that didn't come to its end has left of a snapshot.
+/// Removes what an unfinished compaction has left of a snapshot.
 pub fn remove_unfinished<R: Files>(rt: &R, alloc: Global, folder: &str, listing: &Listing) {
     if listing.unfinished > 0 {
         remove(rt, new_snapshot_path(alloc, folder, listing.unfinished));
     }
 }
 
-/// Removes the snapshot with a number that isn't whole.
+/// Removes the snapshot with a number that isn't complete.
 pub fn remove_new_snapshot<R: Files>(rt: &R, alloc: Global, folder: &str, number: u64) {
     remove(rt, new_snapshot_path(alloc, folder, number));
 }

@@ -1,4 +1,4 @@
-//! The file of a new snapshot as a tape. That it is one is trusted: no contract can say what a file holds.
+//! The file of a new snapshot as a tape. This is trusted: no contract can refer to the content of a file.
 ghost use Rattle.std.specs.Prelude.{◌≡◌, None, false, IfOk};
 
 use std::fs::{File, OpenOptions};
@@ -6,7 +6,7 @@ use std::io::{ErrorKind, Write};
 use std::rt::Files;
 use xs_tape::{Tape, TapeFailed};
 
-/// A snapshot that is written.
+/// A snapshot that is being written.
 #[derive(Drop)]
 pub struct SnapshotFile {
     file: File,
@@ -15,7 +15,7 @@ pub struct SnapshotFile {
 }
 
 impl SnapshotFile {
-    /// Makes an empty file of this path, in the place of one that was left.
+    /// Makes an empty file with this path. It replaces one that was left there.
     pub fn create<R: Files<File = File>>(rt: &R, path: &str) -> Result<Self, ErrorKind>
         ensures { IfOk result (λ made. ⟦<SnapshotFile as Tape>⟧.broken made ≡ false) }
     {
@@ -30,7 +30,7 @@ impl SnapshotFile {
         }
     }
 
-    /// Over an empty file.
+    /// A tape over an empty file.
     fn over(file: File) -> Self
         ensures sound { ⟦<SnapshotFile as Tape>⟧.broken result ≡ false }
         ensures untold { ⟦<SnapshotFile as Tape>⟧.holds result ≡ None }

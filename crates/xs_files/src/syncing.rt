@@ -1,4 +1,4 @@
-//! When a log is synced, and by whom.
+//! When a log is synced, and by which thread.
 use crate::names::log_path;
 use std::alloc::{AllocError, Global};
 use std::fs::{File, OpenOptions};
@@ -9,28 +9,28 @@ use std::sync::atomic::{AtomicBool, AtomicU64, Ordering};
 /// When a log is synced.
 #[derive(Clone, Copy, Debug, PartialEq, Eq)]
 pub enum SyncPolicy {
-    /// Before what it tells is answered: nothing that was answered is lost.
+    /// Before the calls are answered: nothing that was answered is lost.
     Always,
     /// Each second, by a `Syncer`: what was answered in the last second or two may be lost if the machine stops.
     EachSecond,
-    /// When the system likes, and when the next log is begun: what was answered in the last half minute or so may be
+    /// When the system does it, and when the next log is begun: what was answered in the last half minute or so may be
     /// lost if the machine stops.
     Never,
 }
 
-/// What a tape tells who syncs beside it, and is told.
+/// What a tape and its syncer share.
 #[derive(Drop)]
 pub struct Beside {
     // The number of the last log.
     number: AtomicU64,
-    // Something was written since the last sync.
+    // Whether something was written since the last sync.
     was_written: AtomicBool,
-    // A sync has failed.
+    // Whether a sync has failed.
     failed: AtomicBool,
 }
 
 impl Beside {
-    /// The last log has this number.
+    /// The last log has this number, and nothing was written to it.
     pub fn new(number: u64) -> Beside {
         Beside {
             number: AtomicU64::new(number),
@@ -39,12 +39,12 @@ impl Beside {
         }
     }
 
-    /// The log with this number is the last one now.
+    /// Notes that the log with this number is the last one now.
     pub fn begins(&self, number: u64) {
         self.number.store(number, Ordering::SeqCst);
     }
 
-    /// Something was written to the last log.
+    /// Notes that something was written to the last log.
     pub fn wrote(&self) {
         self.was_written.store(true, Ordering::SeqCst);
     }
@@ -55,7 +55,7 @@ impl Beside {
     }
 }
 
-/// Syncs the last log of a folder, beside the tape that writes it.
+/// Syncs the last log of a folder, beside the tape that writes to it.
 #[derive(Drop)]
 pub struct Syncer {
     alloc: Global,
@@ -73,7 +73,7 @@ struct OpenedLog {
 }
 
 impl Syncer {
-    /// It syncs beside the tape of this folder.
+    /// A syncer beside the tape of this folder.
     pub fn new(alloc: Global, folder: &str, beside: &Arc<Beside>) -> Result<Syncer, AllocError> {
         Ok(Syncer {
             alloc,
@@ -83,7 +83,7 @@ impl Syncer {
         })
     }
 
-    /// Opens the log with this number, unless it is open. It says whether it is.
+    /// Opens the log with this number, unless it is open. Returns whether it is open now.
     fn open<R: Files<File = File>>(&mut self, rt: &R, number: u64) -> bool {
         if let Some(opened) = &self.opened {
             if opened.number == number {
@@ -102,8 +102,8 @@ impl Syncer {
         }
     }
 
-    /// Has the system keep what was written since the last call, if anything was. If it can't, the tape fails at its
-    /// next call. If the log can't be opened now, the next call does it.
+    /// Has the system keep what was written since the last call, if anything was. If that fails, the tape fails at its
+    /// next call. If the log can't be opened now, the next call tries again.
     pub fn sync<R: Files<File = File>>(&mut self, rt: &R) {
         if !self.beside.was_written.swap(false, Ordering::SeqCst) {
             return;

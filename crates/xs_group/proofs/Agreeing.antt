@@ -1,4 +1,4 @@
--- The two indexes go on holding the same pairs.
+-- The two indexes still have the same pairs.
 use Rattle.xs_group.proofs.Terms.{◌≡◌, ℕ, Bool, true, false, not, ◌&&◌, ◌||◌, List, [], Some, None, is_some, Result, Ok}
 use Rattle.xs_group.proofs.Terms.{Err, OnErr, sym, ap, ◌∙◌, refl, UpdatesBy, BTreeSet, nat_cmp, slice_cmp}
 use Rattle.xs_group.proofs.Terms.{nat_list_cmp_total, has_key, get-insert_by, Id, id_cmp, is_same_id, is_same_id-eq}
@@ -15,7 +15,7 @@ pub agreed-joined : (rows : List (Id × RowState)) (m n : Index) (name : List �
     → is_some (owner_at m.entries name) ≡ false → o.ids.keys ≡ [] → UpdatesBy (slice_cmp nat_cmp) (slice_cmp nat_cmp name) m n (Some o) → IsAgreed rows n.entries
 agreed-joined rows m n name o agreed none nothing u q x = grind (arith, u.0 q, is_same_name-eq name q, agreed q x)
 
--- the moments of consumers when one is put in again
+-- the moments of consumers after one is inserted again
 pub get-put : (consumers : Consumers) (name : List ℕ) (now : ℕ) (put : Bool) (q : List ℕ) → get (cond put (insert consumers name now) consumers) q ≡ cond (is_same_name q name && put) (Some now) (get consumers q)
 get-put consumers name now true q = grind (arith, get-insert_by nat_list_cmp_total consumers name now q)
 get-put consumers name now false q = grind arith
@@ -60,11 +60,11 @@ module _ (m n : Index) (name : List ℕ) (o : Owner) (seen : ℕ) (e : owner_at 
     is_same_name-symm name q,
   ))
 
--- one that isn't there gets none
+-- a consumer that isn't in the group gets none
 pub unseen : (consumers : Consumers) (name : List ℕ) (seen : ℕ) → get consumers name ≡ None → consumers ≡ with_seen consumers name seen
 unseen consumers name seen none = rw none refl
 
--- a consumer that is there already
+-- a consumer that is in the group already
 pub name-again : (consumers : Consumers) (name : List ℕ) (now : ℕ) → has_name consumers name ≡ true → with_name consumers name now false ≡ consumers
 name-again consumers name now there = rw there refl
 
@@ -90,7 +90,7 @@ held-again held name now there = ap (λ consumers. record { consumers = consumer
 pub held-by : (a b : Consumers) (p q : Rows) → a ≡ b → p ≡ q → ◌≡◌ {A = PendingList} (record { consumers = a; rows = p }) (record { consumers = b; rows = q })
 held-by a b p q e f = λ i. record { consumers = e i; rows = f i }
 
--- where the same consumers are left, and the same rows
+-- the consumers and the rows that are left are the same
 pub refused-as : {T E : Type 0} (r : Result T E) (a b : ConsumerIndex) (rows : Rows) (held : PendingList) → ((q : List ℕ) → seen_at a q ≡ seen_at b q)
     → ◌≡◌ {A = PendingList} (record { consumers = consumers_of b; rows = rows }) held → OnErr r (◌≡◌ {A = PendingList} (record { consumers = consumers_of a; rows = rows }) held)
 refused-as (Ok x) a b rows held same is = tt

@@ -22,7 +22,7 @@ Index = BTreeMap (List ℕ) Owner
 and_yes : (b : Bool) → b ≡ (b && true)
 and_yes b = grind arith
 
--- the ids of a consumer become others
+-- the ids of a consumer are replaced
 abbrev pub with_ids : Owner → BTreeSet Id → Owner
 with_ids owner ids = record { seen = owner.seen; ids = ids }
 
@@ -34,7 +34,7 @@ module _ (m n : Index) (name : List ℕ) (o : Owner) (w : BTreeSet Id) (e : tree
   pub seen-written : (q : List ℕ) → seen_at n.entries q ≡ seen_at m.entries q
   seen-written q = grind (arith, u.0 q, found q)
 
-  -- ids more in the set that is found
+  -- more ids in the set that is found
   pub holds-put : (ids : List Id) → ((x : Id) → set.contains id_cmp w x ≡ (set.contains id_cmp o.ids x || has_id ids x)) → (q : List ℕ) (x : Id)
       → has_pending_id n.entries q x ≡ (has_pending_id m.entries q x || (is_same_name q name && has_id ids x))
   holds-put ids v q x = grind (arith, u.0 q, found q, v x, is_same_name-symm name q)
@@ -43,7 +43,7 @@ module _ (m n : Index) (name : List ℕ) (o : Owner) (w : BTreeSet Id) (e : tree
   pub holds-removed : (id : Id) → set.UpdatesBy id_cmp (id_cmp id) o.ids w false → (q : List ℕ) (x : Id) → has_pending_id n.entries q x ≡ (has_pending_id m.entries q x && not (is_same_name q name && is_same_id x id))
   holds-removed id v q x = grind (arith, u.0 q, found q, v.0 x, is_same_name-symm name q, is_same_id-symm id x)
 
--- a consumer that isn't there has nothing to lose
+-- nothing is removed from a consumer that isn't in the group
 pub holds-absent : (m n : Index) (name : List ℕ) → n ≡ m → tree.get (slice_cmp nat_cmp) m name ≡ None → (id : Id) (q : List ℕ) (x : Id)
     → has_pending_id n.entries q x ≡ (has_pending_id m.entries q x && not (is_same_name q name && is_same_id x id))
 holds-absent m n name e none id q x = grind (arith, is_same_name-eq q name)

@@ -11,7 +11,7 @@ use Rattle.xs_group.proofs.Views.{same_rows, get-rows_of}
 use Rattle.xs_group.proofs.RemovedRows.{get-changed}
 use Rattle.xs_group.proofs.Scanning.{scanned-after}
 
--- ---- no id is taken twice
+-- ---- no id is claimed twice
 
 has-filter : (p : Id → Bool) (x : Id) (ids : List Id) → has_id ids x ≡ false → has_id (filter p ids) x ≡ false
 has-filter p x [] e = e
@@ -60,7 +60,7 @@ apart-claim group now rule claim (inr w) =
     subst (λ (c : Claim). AreDistinct c.take) (sym w.is) (apart-filter (is_taken rows w.present now rule) (scanned_part hit w.limit ids)
     (subst AreDistinct (sym (scanned-after hit w.limit ids)) (apart-scanned hit w.limit 0 0 ids apart)))
 
--- ---- taken first, and then removed
+-- ---- claimed first, and then removed
 
 pub rows-settled : (name : List ℕ) (now : ℕ) (rule : ClaimRule) (claim : Claim) (rows : Rows)
     → change (unless_acked claim.removed) (change (row_after_move name now rule claim.take) rows) ≡ change (row_after_claim name now rule claim) rows

@@ -43,7 +43,7 @@ module _ (rows : List (Id × RowState)) (present : List Id) (now : ℕ) (rule : 
       → with_removed (verdict_of row (has_id present x) now rule) (filter (is_removed rows present) ids) x ≡ filter (is_removed rows present) (ids ++ x ∷ [])
   removed-more row x ids e = grind (arith, removed-verdict row x e, filter-more (is_removed rows present) ids x)
 
--- what an insertion says of the ids before
+-- what an insertion returns about the ids before
 pub had : (f b h t : Bool) → f ≡ not b → f ≡ t → b ≡ h → h ≡ not t
 had f b h t e g k = grind arith
 

@@ -1,7 +1,7 @@
 -- What examples compute: maps by names and by ids.
 use Rattle.xs_bytes.specs.SortedMap.{empty, get, insert_by, remove, change}
 
--- its line is what an example names
+-- the definitions that examples compute
 unfoldable pub example_functions : Type 0
 unfolding empty get insert_by remove change
 example_functions = Unit {0}

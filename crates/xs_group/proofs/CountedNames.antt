@@ -1,4 +1,4 @@
--- How the bytes of names follow when a name comes or goes.
+-- How the bytes of names change when a name is added or removed.
 use Rattle.xs_group.proofs.Terms.{◌≡◌, ℕ, Bool, true, false, cond, not, ◌&&◌, List, [], ◌∷◌, is_some, ap, ◌∙◌, refl, ◌+◌, suc, T}
 use Rattle.xs_group.proofs.Terms.{arith, length, sym, slice_cmp, nat_list_cmp_total, nat_cmp, eq_by_cmp, Consumers}
 use Rattle.xs_group.proofs.Terms.{has_name, with_name, find, is_sorted, below_all, Ordering, ◌-◌, ◌≤◌}
@@ -61,7 +61,7 @@ bytes-without name (e ∷ es) h = by (bytes-without name es (tail_sorted e es h)
         none false sum fewer one same = omega arith
   by sum fewer all false is = rw is (omega arith)
 
--- a name more, unless it is there
+-- a name more, unless it is there already
 counted-put : (names : Consumers) (name : List ℕ) (now : ℕ) → bytes_of_names (insert names name now) ≡ bytes_of_names names + cond (has_name names name) 0 (length name)
 unfolding get insert_by
 counted-put names name now = bytes-put name now names.entries names.sorted
@@ -82,7 +82,7 @@ pub counted-none : 0 ≡ bytes_of_names empty
 unfolding empty
 counted-none = refl
 
--- what is kept when a name comes
+-- the count is right after a name is added
 pub counted-made : (names : Consumers) (name : List ℕ) (now : ℕ) (given made : Bool) (before more after : ℕ) → before ≡ bytes_of_names names → more ≡ bytes_of_names names + length name → made ≡ not (has_name names name)
     → after ≡ cond made more before → after ≡ bytes_of_names (with_name names name now given)
 counted-made names name now given made before more after b m new a = a ∙ by (has_name names name) made new ∙ sym (counted-with names name now given) where
@@ -97,7 +97,7 @@ counted-there names name now given there before more after b m known a = a ∙ b
   by true u is = rw is (omega (arith, b))
   by false u is = rw is m
 
--- and when one goes
+-- and after one is removed
 pub counted-gone : (names : Consumers) (name : List ℕ) (there : Bool) (before less : ℕ) → before ≡ bytes_of_names names → there ≡ has_name names name → less ≡ cond there (length name) 0
     → before - less ≡ bytes_of_names (remove names name)
 counted-gone names name there before less b known l =
@@ -107,7 +107,7 @@ pub counted-within : (names : Consumers) (name : List ℕ) (there : Bool) (befor
 counted-within names name there before less b known l =
     omega (arith, counted-without names name, b, l ∙ ap (λ t. cond t (length name) 0) known)
 
--- what is kept when a read is undone
+-- the count is right after a read is undone
 module _ (held : PendingList) (delivery : Delivery) (there : Bool) (before name less : ℕ) (b : before ≡ bytes_of_names held.consumers) (known : there ≡ has_name held.consumers delivery.consumer)
     (n : name ≡ cond there (length delivery.consumer) 0) (l : less ≡ cond (not (is_some delivery.seen_before)) name 0) where
   pub counted-undone : before - less ≡ bytes_of_names (list_without_delivery delivery held).consumers

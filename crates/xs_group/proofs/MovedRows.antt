@@ -1,4 +1,4 @@
--- Rows that go to another consumer.
+-- Rows that move to another consumer.
 use Rattle.xs_group.proofs.Terms.{◌≡◌, ℕ, Bool, true, false, cond, not, ◌&&◌, ◌||◌, List, [], ◌∷◌, ◌++◌, map, take}
 use Rattle.xs_group.proofs.Terms.{Option, Some, option_and_then, ap, ◌∙◌, refl, UpdatesBy, Id, id_cmp, is_same_id}
 use Rattle.xs_group.proofs.Terms.{has_id, is_same_id-eq, is_same_id-symm, ClaimRule, claimed_row, RowState, is_same_name}
@@ -9,9 +9,9 @@ use Rattle.xs_group.proofs.ByConsumer.{is_same_name-eq, is_same_name-symm}
 use Rattle.xs_group.proofs.Views.{RowMap}
 use Rattle.xs_group.proofs.NewRows.{among-take}
 
--- ---- ids that are taken back
+-- ---- ids that are given back
 
--- once all are taken back, the indexes agree
+-- once all are given back, the indexes agree
 pub agreed-again : (rows : List (Id × RowState)) (a b : ConsumerIndex) (name : List ℕ) (done ids : List Id) → AreSomeOf done ids → AreAgreedBut rows a name done
     → ((q : List ℕ) → (x : Id) → has_pending_id b q x ≡ (has_pending_id a q x && not (is_same_name q name && (has_id ids x && not (is_owner (indexed_row rows x) name))))) → IsAgreed rows b
 agreed-again rows a b name done ids some but h q x = grind (arith, h q x, but q x, some x, is_same_name-eq q name)
@@ -52,7 +52,7 @@ pub row-moved : (m n : RowMap) (id : Id) (row : RowState) (name : List ℕ) (now
     → indexed_row n.entries x ≡ cond (is_same_id x id) (option_and_then (row_after_move name now rule (id ∷ []) x) (indexed_row m.entries x)) (indexed_row m.entries x)
 row-moved m n id row name now rule found u x = grind (arith, u.0 x, is_same_id-symm id x, is_same_id-eq x id)
 
--- what the rest will still do to the rows is what all do
+-- what the remaining ids still change in the rows is what all of them change
 pub rows-left : (name : List ℕ) (now : ℕ) (rule : ClaimRule) (id : Id) (rest : List Id) (x : Id) (o p : Option RowState) → has_id rest id ≡ false
     → p ≡ cond (is_same_id x id) (option_and_then (row_after_move name now rule (id ∷ []) x) o) o
     → option_and_then (row_after_move name now rule rest x) p ≡ option_and_then (row_after_move name now rule (id ∷ rest) x) o

@@ -1,4 +1,4 @@
--- Rows that are put.
+-- Rows that are inserted.
 use Rattle.xs_group.proofs.Terms.{◌≡◌, ℕ, suc, zero, Bool, true, false, cond, not, List, [], ◌∷◌, take}
 use Rattle.xs_group.proofs.Terms.{Some, refl, false≢true, nat_list_cmp_total, get, remove, change}
 use Rattle.xs_group.proofs.Terms.{insert_by, get-insert_by, get-remove, Id, has_id}
@@ -28,7 +28,7 @@ pub agreed-all : (m n : List (Id × RowState)) (b : ConsumerIndex) (name : List 
 agreed-all m n b name ids row whose free but is q x =
     grind (arith, but q x, is x, none-from_free m x, free x, is_same_name-symm q name)
 
--- rows that are what they were
+-- rows that are unchanged
 pub agreed-but : (m n : List (Id × RowState)) (b : ConsumerIndex) (name : List ℕ) (ids : List Id) → AreAgreedBut m b name ids
     → ((x : Id) → indexed_row n x ≡ indexed_row m x) → AreAgreedBut n b name ids
 agreed-but m n b name ids but is q x = grind (arith, but q x, is x)
@@ -39,12 +39,12 @@ among-take [] (suc i) q e = e
 among-take (x ∷ xs) zero q e = absurd (false≢true e)
 among-take (x ∷ xs) (suc i) q e = grind (arith, among-take xs i q)
 
--- rows that are put where none was, and taken out again
+-- rows that are inserted at free ids, and removed again
 pub out-again : (ids : List Id) (row : RowState) (rows : Rows) → AreFree rows ids → change (unless_acked ids) (with_rows ids row rows) ≡ rows
 out-again ids row rows free = same_rows _ _ (λ q.
     grind (arith, get-changed (unless_acked ids) (with_rows ids row rows) q, get-with_rows ids row rows q, free q))
 
--- ---- a consumer that is put and taken out again
+-- ---- a consumer that is inserted and removed again
 
 pub out-consumers : (consumers : Consumers) (name : List ℕ) (now : ℕ) (given : Bool) → has_name consumers name ≡ false → remove (with_name consumers name now given) name ≡ consumers
 out-consumers consumers name now given none = same_consumers _ _ (λ q. grind (
@@ -54,7 +54,7 @@ out-consumers consumers name now given none = same_consumers _ _ (λ q. grind (
   is_same_name-eq q name,
 ))
 
--- a consumer that was there has its moment again
+-- a consumer that was there gets its moment back
 pub seen-again : (consumers : Consumers) (name : List ℕ) (now seen : ℕ) (given : Bool) → get consumers name ≡ Some seen → with_seen (with_name consumers name now given) name seen ≡ consumers
 seen-again consumers name now seen given was = same_consumers _ _ (λ q. grind (
   arith,
@@ -65,7 +65,7 @@ seen-again consumers name now seen given was = same_consumers _ _ (λ q. grind (
   is_same_name-eq q name,
 ))
 
--- a consumer that is there is given something
+-- a consumer that is in the group is given something
 pub given-now : (consumers : Consumers) (name : List ℕ) (now : ℕ) → has_name consumers name ≡ true → with_seen consumers name now ≡ with_name consumers name now true
 given-now consumers name now there = rw there refl
 
@@ -74,7 +74,7 @@ pub given-any : (ids : List Id) (is_empty : Bool) → is_empty ≡ eqb (length i
 given-any [] is_empty e = ap not e
 given-any (x ∷ xs) is_empty e = grind (arith, nat_tests)
 
--- first put in, then given something or nothing
+-- first inserted, then given something or nothing
 pub given-then : (consumers : Consumers) (name : List ℕ) (now : ℕ) (given : Bool) → with_name (with_name consumers name now false) name now given ≡ with_name consumers name now given
 given-then consumers name now given = same_consumers _ _ (λ q. grind (
   arith,
@@ -85,12 +85,12 @@ given-then consumers name now given = same_consumers _ _ (λ q. grind (
   get-with_name consumers name now given q,
 ))
 
--- a consumer that isn't there has no rows
+-- a consumer that isn't in the group has no rows
 pub unowned-rows : (names : Consumers) (rows : Rows) (name : List ℕ) → IsNamed names rows → has_name names name ≡ false → change (unless_owned name) rows ≡ rows
 unowned-rows names rows name named none =
     change-nothing (unless_owned name) rows (λ q. grind (arith, named name q))
 
--- without the consumer that was put in, a group is what it was
+-- without the consumer that was inserted, a group is as before
 pub held-back : (held : PendingList) (name : List ℕ) (now : ℕ) (given : Bool) → change (unless_owned name) held.rows ≡ held.rows
     → true ≡ not (has_name held.consumers name)
     → ◌≡◌ {A = PendingList} (record { consumers = remove (with_name held.consumers name now given) name; rows = change (unless_owned name) held.rows }) held

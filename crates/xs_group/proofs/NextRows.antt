@@ -1,4 +1,4 @@
--- A row behind all others.
+-- A row after all others.
 use Rattle.xs_group.proofs.Terms.{◌≡◌, Bool, true, false, ◌&&◌, List, [], ◌∷◌, ◌++◌, Some, None, ap, refl, T}
 use Rattle.xs_group.proofs.Terms.{is_sorted, has_key, find, arith, Id, id_cmp, is_below}
 use Rattle.xs_group.proofs.Terms.{below-not_same, below-trans, above-greater, is_same_id-symm, get-insert_by}
@@ -16,7 +16,7 @@ joined : (p q a b : Bool) → p ≡ (a && b) → (a ≡ true → q ≡ true) →
 joined p q true b e h = grind (arith, h refl)
 joined p q false b e h = grind arith
 
--- what is above the last is above all
+-- an id above the last is above all
 pub past-last : (es : List (Id × RowState)) (x last : Id) → T (is_sorted id_cmp es) → Some last ≡ last_id es
     → is_below last x ≡ list_all (λ e. is_below e.0 x) es
 past-last [] x last s e = cc
@@ -28,7 +28,7 @@ past-last (f ∷ g ∷ es) x last s e =
       by : (a b : Bool) → T (a && b) → a ≡ true
       by a b h = grind arith
 
--- and so is everything where there is none
+-- every id is above all if there are none
 pub past-nothing : (es : List (Id × RowState)) (x : Id) → length es ≡ 0 → true ≡ list_all (λ e. is_below e.0 x) es
 past-nothing [] x e = refl
 past-nothing (f ∷ es) x e = absurd (omega arith)
@@ -60,18 +60,18 @@ pub free-past : (rows : Rows) (x : Id) → is_past_rows x rows ≡ true → has_
 unfolding get
 free-past rows x h = grind (arith, find-past rows.entries x)
 
--- its row is put behind the others
+-- its row is inserted after the others
 pub row-behind : (rows : Rows) (x : Id) (row : RowState) → is_past_rows x rows ≡ true
     → (insert_by ids_total rows x row).entries ≡ rows.entries ++ (x, row) ∷ []
 unfolding insert_by
 row-behind rows x row h = put-past rows.entries x row h
 
--- no row is above the cursor then either
+-- no row is above the cursor afterwards either
 pub up_to-next : (cursor id : Id) (row : RowState) (rows : Rows) → IsUpTo cursor rows → is_below cursor id ≡ false
     → IsUpTo cursor (insert_by ids_total rows id row)
 up_to-next cursor id row rows up h x e = grind (arith, get-insert_by ids_total rows id row x, up x, is_same_id-eq x id)
 
--- a row that is put, and then gets a time and a count
+-- a row that is inserted, and then gets a time and a count
 pub put-touched : (rows : Rows) (id : Id) (touch : Touch) (row : RowState)
     → set_one id (Some touch) (with_rows (id ∷ []) row rows) ≡ insert_by ids_total rows id (with_touch touch row)
 put-touched rows id touch row = same_rows _ _ (λ q. grind (

@@ -64,7 +64,7 @@ find-units : (q : Id) (xs : List Id) → is_some (find id_cmp q (units xs)) ≡ 
 find-units q [] = refl
 find-units q (x ∷ xs) = grind (arith, find-units q xs)
 
--- ids in order are known by what they have
+-- ids in order are determined by which ids they contain
 pub same_ids : (xs : List Id) (es : List (Id × RowState)) → IsStrictlySortedBy id_cmp xs → T (is_sorted id_cmp es) → ((q : Id) → has_id xs q ≡ has_id (keys_of es) q) → xs ≡ keys_of es
 same_ids xs es s t is =
     sym (keys-units xs) ∙ ap keys_of (same_entries id_cmp ids_total same_id (units xs) (units (keys_of es))

@@ -4,7 +4,7 @@ use Rattle.xs_group.proofs.Terms.{ids_of_consumer, rows_of, ConsumerIndex, ids_a
 use Rattle.xs_group.proofs.Views.{get-rows_of}
 use Rattle.xs_group.proofs.Ordered.{ids-owned, sorted-none}
 
--- none, of a consumer that isn't there
+-- none, if the consumer isn't in the group
 pub owned-none : (rows : List (Id × RowState)) (a : ConsumerIndex) (name : List ℕ) → IsAgreed rows a → None ≡ ids_at a name → [] ≡ ids_of_consumer name (rows_of rows).entries
 owned-none rows a name agreed none =
     ids-owned [] (rows_of rows) name sorted-none (λ x. grind (arith, agreed name x, get-rows_of rows x))

@@ -1,4 +1,4 @@
--- Rows that go: acknowledged ones, and those of a consumer that goes.
+-- Rows that are removed: acknowledged ones, and those of a consumer that is removed.
 use Rattle.xs_group.proofs.Terms.{◌≡◌, ℕ, ◌≤◌, suc, Bool, true, cond, List, [], ◌∷◌, ◌++◌, length, Option, Some, None}
 use Rattle.xs_group.proofs.Terms.{option_and_then, sym, ap, ◌∙◌, refl, arith, BTreeSet, list_any, nat_list_cmp_total}
 use Rattle.xs_group.proofs.Terms.{list_any-append, with_some, each, get, has_key, remove, empty, get-change, get-remove}
@@ -41,7 +41,7 @@ acked-more ids id rows = same_rows _ _ (λ q. grind (
   list_any-append (is_same_id q) ids (id ∷ []),
 ))
 
--- ---- a consumer that goes
+-- ---- a consumer that is removed
 
 module _ (rows new : List (Id × RowState)) (a b : ConsumerIndex) (name : List ℕ) (agreed : IsAgreed rows a)
     (left : (x : Id) → indexed_row new x ≡ cond (has_pending_id a name x) None (indexed_row rows x)) where
@@ -84,7 +84,7 @@ pub left-some : (rows new : List (Id × RowState)) (a : ConsumerIndex) (name : L
     → ((x : Id) → indexed_row new x ≡ cond (list_any (is_same_id x) s.keys) None (indexed_row rows x)) → (x : Id) → indexed_row new x ≡ cond (has_pending_id a name x) None (indexed_row rows x)
 left-some rows new a name s some is x = is x ∙ ap (λ (o : Option (BTreeSet Id)). cond (has_among o x) None (indexed_row rows x)) (sym some)
 
--- ---- what holds of every group
+-- ---- what is true of every group
 
 pub up_to-empty : (cursor : Id) → IsUpTo cursor empty
 up_to-empty cursor x e = absurd (grind (arith, get-empty {X = RowState} id_cmp x))

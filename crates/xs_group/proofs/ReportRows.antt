@@ -1,4 +1,4 @@
--- What is told of pending rows.
+-- Reports of pending rows.
 use Rattle.xs_group.proofs.Terms.{◌≡◌, ℕ, ◌-◌, suc, Bool, true, false, cond, ◌&&◌, leb, List, [], ◌∷◌, map, filter}
 use Rattle.xs_group.proofs.Terms.{take, length, Option, Some, None, sym, ap, ◌∙◌, refl, subst, arith, T, AllByRecursion}
 use Rattle.xs_group.proofs.Terms.{slice_get, IsStrictlySortedBy, keys_of, IsOrdered, range_contains, entries_between}
@@ -26,7 +26,7 @@ last-told (f ∷ g ∷ es) x row e =
 
 -- ---- the consumers
 
--- each entry is the one that a look-up finds
+-- each entry is the one that a lookup finds
 abbrev pub AreHeld : ConsumerIndex → ConsumerIndex → Type 0
 AreHeld owners es = AllByRecursion (λ e. Some e.1 ≡ owner_at owners e.0) es
 
@@ -84,7 +84,7 @@ rows-between s rows =
     (λ e. leb s.min_idle (idle_time s.moment e.1.time)) (is_selected s.range s.min_idle s.moment None)
     (λ e. grind (arith, between-within s.range e.0)) rows
 
--- a row before the others, where there is one
+-- a row before the others, if there is one
 abbrev pub with_row : Id → Option RowState → List (Id × RowState) → List (Id × RowState)
 with_row x None rest = rest
 with_row x (Some row) rest = (x, row) ∷ rest
@@ -113,7 +113,7 @@ among-found rows [] a = refl
 among-found rows (e ∷ es) a = (λ i. with_row e.0 (sym (a.0 ∙ get-rows_of rows e.0) i) (listed_rows rows (keys_of es)))
     ∙ ap (λ rest. e ∷ rest) (among-found rows es a.1)
 
--- ---- what is asked
+-- ---- the rows that are asked for
 
 pub asked-owned : (s : Selection) (name : List ℕ) (rows : List (Id × RowState)) (ids : List Id)
     → ids ≡ ids_of_consumer name (rows_of rows).entries

@@ -1,4 +1,4 @@
--- The scanned part, met one id after another.
+-- The scanned part, one id after another.
 use Rattle.xs_group.proofs.Terms.{◌≡◌, ℕ, ◌+◌, ◌*◌, Bool, true, false, cond, not, ◌&&◌, ◌||◌, leb, List, [], ◌∷◌, ◌++◌}
 use Rattle.xs_group.proofs.Terms.{map, filter, length, drop, Some, sym, ap, ◌∙◌, refl, add-zero, arith, append_assoc, T}
 use Rattle.xs_group.proofs.Terms.{below_all, is_sorted, AllByRecursion, entries_between, Included, Unbounded, Id}
@@ -86,7 +86,7 @@ pub removed-on : (v : Verdict) (p : Id → Bool) (ids : List Id) (x : Id) (part 
 removed-on v p ids x part e = grind (arith, append_assoc ids (x ∷ []) (filter p part))
 
 module _ (rows : List (Id × RowState)) (present : List Id) (now : ℕ) (rule : ClaimRule) (start : Id) (limit : ℕ) where
-  -- what a scan has found where it ends
+  -- what a scan has found when it ends
   pub scan-ended : (cursor : Id) (take removed : List Id)
       → take ≡ filter (is_taken rows present now rule) (ids_scanned_after (is_hit rows present now rule) limit 0 0 (from_start start rows))
       → removed ≡ filter (is_removed rows present) (ids_scanned_after (is_hit rows present now rule) limit 0 0 (from_start start rows))

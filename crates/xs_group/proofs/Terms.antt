@@ -1,4 +1,4 @@
--- The words of the standard library, of the crates below and of the definitions that proofs are written in.
+-- The names of the standard library, of the crates below and of the definitions that proofs are written in.
 pub use Rattle.std.proofs.Common.{◌≡◌, ℕ, Bool, true, false, cond, not, ◌&&◌, ◌||◌, List, [], Option, Some, None}
 pub use Rattle.std.proofs.Common.{is_some, Result, Ok, Err, OnErr, sym, ap, ◌∙◌, refl, BTreeMap, ◌+◌, ◌*◌, inl, inr}
 pub use Rattle.std.proofs.Common.{leb, ◌∷◌, map, filter, option_and_then, subst, Ordering, ◌≤◌, ◌++◌, arith, suc, zero}

@@ -73,7 +73,7 @@ pub any-shown : (rows : Rows) (present ids : List Id) → list_any (λ r. r.pres
 any-shown rows present [] = refl
 any-shown rows present (x ∷ xs) = ap (λ rest. has_id present x || rest) (any-shown rows present xs)
 
--- and taken back
+-- and undone
 pub rows-unread : (now : ℕ) (present ids : List Id) (rows : Rows) → set_rows None (shown_rows rows present ids) (change (row_after_reread now ids present) rows) ≡ rows
 rows-unread now present ids rows =
     same_rows _ _ (λ q. grind (

@@ -1,4 +1,4 @@
--- A read that is taken back.
+-- A read that is undone.
 use Rattle.xs_group.proofs.Terms.{Option, Some, None, is_some, ◌≡◌, ℕ, Bool, true, false, cond, not, inl, inr, List, [], ◌∷◌, sym, ap, ◌∙◌}
 use Rattle.xs_group.proofs.Terms.{refl, change, Id, Delivery, Rows, GroupState, has_name, with_name, is_any, list_any, has_id, get, new_ids, first_row}
 use Rattle.xs_group.proofs.Terms.{with_rows, reread_ids, group_after_delivery, group_after_reread, unless_acked}
@@ -13,7 +13,7 @@ ids-new_rows : (ids : List Id) → row_ids (new_rows ids) ≡ ids
 ids-new_rows [] = refl
 ids-new_rows (x ∷ xs) = ap (λ rest. x ∷ rest) (ids-new_rows xs)
 
--- the consumer goes if it was made, and else has its moment again
+-- the consumer is removed if the read created it, and else gets its moment back
 before-read : (held : PendingList) (name : List ℕ) (now : ℕ) (given : Bool) → IsNamed held.consumers held.rows
     → with_consumer_before (get held.consumers name) name (record { consumers = with_name held.consumers name now given; rows = held.rows }) ≡ held
 before-read held name now given named = by (get held.consumers name) refl where
@@ -64,7 +64,7 @@ pub undone-before : (before after : GroupState) (d : Delivery) → IsMade before
 undone-before before after d (law, inl w) = undelivered before law after d w
 undone-before before after d (law, inr w) = unreread before law after d w
 
--- ---- what a read ensures is what its undoing asks for
+-- ---- what a read ensures is what its undoing requires
 
 pub made-delivery : (before after : GroupState) (d : Delivery) (consumer : List ℕ) (now : ℕ) (limit : Option ℕ) (noack : Bool) (ids : List Id) → IsConsistentGroup before
     → after ≡ group_after_delivery consumer now limit noack ids before → d ≡ delivery_of consumer limit noack ids before → IsMade before after d

@@ -1,4 +1,4 @@
--- The maps that the two indexes are seen as.
+-- The maps as which contracts see the two indexes.
 use Rattle.xs_group.proofs.Terms.{◌≡◌, ℕ, cond, List, [], ◌∷◌, map, Option, Some, None, is_some, sym, ap, ◌∙◌, refl}
 use Rattle.xs_group.proofs.Terms.{BTreeMap, Ordering, find, lookup, UpdatesBy, is_at, nat_cmp, eq_by_cmp, slice_cmp}
 use Rattle.xs_group.proofs.Terms.{nat_list_cmp_total, exact_bytes, get, remove, get-of_entries, get-remove, same_map}

@@ -1,4 +1,4 @@
--- Claims: which pending entries go to another consumer. (Redis, XCLAIM and XAUTOCLAIM.)
+-- Claims: which pending entries move to another consumer. (Redis, XCLAIM and XAUTOCLAIM.)
 use Rattle.std.specs.Prelude.{ℕ, ◌*◌, ◌-◌, Bool, false, not, ◌&&◌, ◌||◌, List, [], ◌∷◌, map, filter, length, drop}
 use Rattle.std.specs.Prelude.{nat_le, Option, Some, None, is_some, if◌then◌else◌}
 use Rattle.std.specs.FinMap.Entries.{find}
@@ -21,15 +21,15 @@ abbrev pub is_idle : ℕ → ClaimRule → Option RowState → Bool
 is_idle now rule None = false
 is_idle now rule (Some row) = nat_le rule.min_idle (idle_time now row.time)
 
--- a pending entry that is no longer in the stream goes, whatever its idle time
+-- a pending entry that is no longer in the stream is removed, whatever its idle time
 abbrev pub is_removed : List (Id × RowState) → List Id → Id → Bool
 is_removed rows present x = is_some (row_at rows x) && not (has_id present x)
 
--- a pending entry in the stream is taken where it is idle enough
+-- a pending entry in the stream is claimed if it is idle enough
 abbrev pub is_taken : List (Id × RowState) → List Id → ℕ → ClaimRule → Id → Bool
 is_taken rows present now rule x = is_idle now rule (row_at rows x) && has_id present x
 
--- what a claim makes of these ids
+-- the result of a claim of these ids
 abbrev pub claim_among : List (Id × RowState) → List Id → ℕ → ClaimRule → List Id → Claim
 claim_among rows present now rule ids =
     record { take = filter (is_taken rows present now rule) ids; removed = filter (is_removed rows present) ids }
@@ -55,7 +55,7 @@ is_hit rows present now rule x = is_removed rows present x || is_taken rows pres
 abbrev pub is_enough : (Id → Bool) → ℕ → List Id → Bool
 is_enough hit limit ids = nat_le limit (length (filter hit ids)) || nat_le (10 * limit) (length ids)
 
--- all that a list begins with, the shortest first
+-- all prefixes of a list, the shortest first
 abbrev pub prefixes : List Id → List (List Id)
 prefixes [] = [] ∷ []
 prefixes (x ∷ xs) = [] ∷ map (λ ids. x ∷ ids) (prefixes xs)
@@ -81,7 +81,7 @@ scan_of rows present now rule start limit =
     let part = scanned_part (is_hit rows present now rule) limit ids in
     record { cursor = first_or_zero (drop (length part) ids); claim = claim_among rows present now rule part }
 
--- the time that a claimed row gets; a time past now is now
+-- the time that a claimed row gets; a time after now is now
 abbrev pub claim_time : ClaimTime → ℕ → ℕ
 claim_time Now now = now
 claim_time (Idle n) now = now - n
@@ -97,13 +97,13 @@ claimed_row consumer now rule row =
     let count = claim_count rule.retry rule.just_id row.count in
     record { consumer = consumer; time = claim_time rule.when now; count = count }
 
--- what becomes of a row by a claim
+-- a row after a claim; None if it is removed
 abbrev pub row_after_claim : List ℕ → ℕ → ClaimRule → Claim → Id → RowState → Option RowState
 row_after_claim consumer now rule claim x row =
     if has_id claim.removed x then None
     else (if has_id claim.take x then Some (claimed_row consumer now rule row) else Some row)
 
--- a group after a claim: the consumer is there, removed rows go, and taken rows are the consumer's
+-- a group after a claim: it has the consumer, removed rows are gone, and claimed rows are the consumer's
 abbrev pub group_after_claim : List ℕ → ℕ → ClaimRule → Claim → GroupState → GroupState
 group_after_claim consumer now rule claim group =
     let rows = change (row_after_claim consumer now rule claim) group.rows in

@@ -1,4 +1,4 @@
--- What holds of a group at each time: it is consistent.
+-- What is always true of a group: it is consistent.
 use Rattle.std.specs.Prelude.{◌≡◌, true, false, map}
 use Rattle.xs_bytes.specs.SortedMap.{has_key}
 use Rattle.xs_stream.specs.declared.id.Id.{Id}
@@ -11,7 +11,7 @@ use Rattle.xs_group.specs.Indexes.{IsNamed}
 abbrev pub IsUpTo : Id → Rows → Type 0
 IsUpTo cursor rows = (x : Id) → has_key rows x ≡ true → is_below cursor x ≡ false
 
--- the ids of the rows ascend, so each has one row; none is above the cursor; and each row's consumer is one of the
+-- the ids of the rows ascend, so each has one row; none is above the cursor; and the consumer of each row is one of the
 -- group's
 pub record IsConsistentGroup (group : GroupState) : Type 0 where
   pub ascends : Ascends (map (λ e. e.0) group.rows.entries)

@@ -1,4 +1,4 @@
--- What a read of a group answers, and what is left if it is undone.
+-- The result of a read of a group, and the group after the read is undone.
 use Rattle.std.specs.Prelude.{◌≡◌, ℕ, Bool, true, not, ◌⊎◌, List, [], ◌∷◌, map, Option, Some, None, if◌then◌else◌}
 use Rattle.std.specs.Option.{option_map}
 use Rattle.xs_bytes.specs.SortedMap.{get, change, remove, insert}
@@ -35,7 +35,7 @@ group_after_read consumer now noack ids group =
 abbrev pub kind_of : Bool → DeliveryKind
 kind_of noack = if noack then NoAck else New
 
--- what a read of new entries answers
+-- the result of a read of new entries
 abbrev pub delivery_of : List ℕ → Option ℕ → Bool → List Id → GroupState → Delivery
 delivery_of consumer limit noack present group =
     record {
@@ -57,7 +57,7 @@ shown_row rows present x = record { id = x; present = has_id present x; before =
 abbrev pub shown_rows : Rows → List Id → List Id → List DeliveryRow
 shown_rows rows present ids = map (shown_row rows present) ids
 
--- what a read of the consumer's own entries answers
+-- the result of a read of the consumer's own entries
 abbrev pub history_of : List ℕ → Option ℕ → Id → List Id → GroupState → Delivery
 history_of consumer limit from present group =
     record {
@@ -69,7 +69,7 @@ history_of consumer limit from present group =
       rows = shown_rows group.rows present (reread_ids consumer limit from group.rows.entries);
     }
 
--- a read of new entries made this group of the earlier one, and answered this delivery
+-- a read of new entries changed the group so, and returned this delivery
 pub record IsDelivered (before after : GroupState) (delivery : Delivery) : Type 0 where
   pub now : ℕ
   pub limit : Option ℕ
@@ -78,7 +78,7 @@ pub record IsDelivered (before after : GroupState) (delivery : Delivery) : Type 
   pub left : after ≡ group_after_delivery delivery.consumer now limit noack ids before
   pub answered : delivery ≡ delivery_of delivery.consumer limit noack ids before
 
--- so did a read of the consumer's own entries
+-- a read of the consumer's own entries did
 pub record IsReread (before after : GroupState) (delivery : Delivery) : Type 0 where
   pub now : ℕ
   pub limit : Option ℕ
@@ -87,14 +87,14 @@ pub record IsReread (before after : GroupState) (delivery : Delivery) : Type 0 w
   pub left : after ≡ group_after_reread delivery.consumer now limit from ids before
   pub answered : delivery ≡ history_of delivery.consumer limit from ids before
 
--- a read of a consistent group left this one, and answered this delivery
+-- a read changed a consistent group so, and returned this delivery
 abbrev pub IsMade : GroupState → GroupState → Delivery → Type 0
 IsMade before after delivery =
     IsConsistentGroup before × (IsDelivered before after delivery ⊎ IsReread before after delivery)
 
 -- ---- times and counts that are set
 
--- the time and count that a row gets by a delivery at a moment, or gets back
+-- the time and the count that a row gets by a delivery at a moment, or gets back if that is None
 abbrev pub touch_set : Option ℕ → DeliveryRow → Option Touch
 touch_set (Some now) row =
     if row.present then option_map (λ t. record { time = now; count = next_count t.count }) row.before else None
@@ -118,17 +118,17 @@ set_rows now (r ∷ rs) rows = set_rows now rs (set_one r.id (touch_set now r) r
 abbrev pub row_ids : List DeliveryRow → List Id
 row_ids rows = map (λ r. r.id) rows
 
--- rows without what a read did to them
+-- rows without the changes of a read
 abbrev pub rows_taken_back : DeliveryKind → List DeliveryRow → Rows → Rows
 rows_taken_back New rows held = change (unless_acked (row_ids rows)) held
 rows_taken_back NoAck rows held = held
 rows_taken_back History rows held = set_rows None rows held
 
--- a consumer that is there has another moment
+-- a consumer of the group gets another moment
 abbrev pub with_seen : Consumers → List ℕ → ℕ → Consumers
 with_seen consumers name seen = if has_name consumers name then insert consumers name seen else consumers
 
--- with the moment that the consumer had before the read, or without it if the read made it
+-- with the moment of the consumer before the read, or without the consumer if the read created it
 abbrev pub with_consumer_before : Option ℕ → List ℕ → PendingList → PendingList
 with_consumer_before None consumer held =
     record { consumers = remove held.consumers consumer; rows = change (unless_owned consumer) held.rows }

@@ -1,5 +1,5 @@
--- Claims by examples, as the Redis pages tell it (XCLAIM, XAUTOCLAIM) and a real Redis 7.0 answers.
--- Where a rule is this server's, "own" says so.
+-- Claims by examples, by the Redis pages (XCLAIM, XAUTOCLAIM) and the replies of a real Redis 7.0. A rule that is this
+-- server's is marked "own".
 use Rattle.std.specs.Prelude.{◌≡◌, ℕ, true, false, List, [], ◌∷◌, codes, Some, None}
 use Rattle.xs_stream.specs.declared.id.Id.{Id}
 use Rattle.xs_stream.specs.Id.{is_same_id}
@@ -13,7 +13,7 @@ use Rattle.xs_group.specs.Claims.{scanned_part, first_or_zero, scan_of, claim_ti
 use Rattle.xs_group.specs.Claims.{group_after_claim}
 use Rattle.xs_group.specs.ExamplesRead.{pending, three, group, Is}
 
--- a claim of what is idle for so long, without options
+-- a claim of entries that are idle for this many milliseconds, without options
 abbrev pub idle_for : ℕ → ClaimRule
 idle_for min_idle = record { min_idle = min_idle; when = time.Now; retry = None; just_id = false }
 
@@ -29,7 +29,8 @@ abbrev pub twelve : List Id
 twelve =
     at 1 0 ∷ at 2 0 ∷ at 3 0 ∷ at 4 0 ∷ at 5 0 ∷ at 6 0 ∷ at 7 0 ∷ at 8 0 ∷ at 9 0 ∷ at 10 0 ∷ at 11 0 ∷ at 12 0 ∷ []
 
--- XCLAIM; own: as idle as asked for is enough, each id is treated once, a deleted one goes whatever its idle time
+-- XCLAIM; own: an entry that is idle for exactly the least idle time is claimed, each id is treated once, a deleted one
+-- is removed whatever its idle time
 pub record ByIds : Type 0 where
   pub idle_for_longer : is_idle 151 (idle_for 50) (Some (row (codes "a") 100 1)) ≡ true
   pub idle_for_as_long : is_idle 150 (idle_for 50) (Some (row (codes "a") 100 1)) ≡ true
@@ -89,7 +90,7 @@ pub record ByScan : Type 0 where
       scan_of three (at 1 0 ∷ at 2 0 ∷ at 3 0 ∷ []) 150 (idle_for 0) (at 0 0) 100
       ≡ record { cursor = at 0 0; claim = record { take = at 1 0 ∷ at 2 0 ∷ at 3 0 ∷ []; removed = [] } }
 
--- IDLE, TIME, RETRYCOUNT and JUSTID; own: a time is never past now, and IDLE past now is 0
+-- IDLE, TIME, RETRYCOUNT and JUSTID; own: a time is never after now, and IDLE longer than now gives 0
 pub record TimesAndCounts : Type 0 where
   pub now : claim_time time.Now 100 ≡ 100
   pub idle : claim_time (time.Idle 30) 100 ≡ 70

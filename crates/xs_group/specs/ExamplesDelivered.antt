@@ -1,5 +1,5 @@
--- What reads of a group answer and how they are taken back, what a claim makes of one id, and what holds of every
--- group, by examples over the group of `ExamplesRead`. A real Redis 7.0 delivers so; how it is told is this server's.
+-- What reads of a group return and how they are undone, what a claim does with one id, and what is true of every group,
+-- by examples over the group of `ExamplesRead`. A real Redis 7.0 delivers so; the form of the result is this server's.
 use Rattle.std.specs.Prelude.{◌≡◌, ℕ, true, false, [], ◌∷◌, codes, Some, None}
 use Rattle.xs_stream.specs.declared.id.Id.{Id}
 use Rattle.xs_stream.specs.Id.{is_same_id}
@@ -26,7 +26,7 @@ own id time count = record { id = id; present = true; before = Some (record { ti
 abbrev pub gone : Id → ℕ → ℕ → DeliveryRow
 gone id time count = record { id = id; present = false; before = Some (record { time = time; count = count }) }
 
--- what a delivery says, but for its kind, which each example states
+-- the fields of a delivery except its kind, which each example gives
 pub record Answers : Type 0 where
   pub to_a_new_consumer :
       delivery_of (codes "d") (Some 2) false present group
@@ -111,7 +111,7 @@ pub record TakenBack : Type 0 where
       (set_rows None (gone (at 1 0) 90 5 ∷ own (at 3 0) 95 6 ∷ []) (rows_of three)).entries
       ≡ pending (at 1 0) (codes "a") 90 5 ∷ pending (at 2 0) (codes "b") 110 2 ∷ pending (at 3 0) (codes "a") 95 6 ∷ []
 
--- what a claim makes of one id after another
+-- what a claim does with one id after another
 pub record Verdicts : Type 0 where
   pub of_no_row : verdict_of None true 150 (idle_for 0) ≡ Passed
   pub idle_enough : verdict_of (Some (row (codes "a") 100 1)) true 150 (idle_for 50) ≡ Taken

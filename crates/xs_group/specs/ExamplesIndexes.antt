@@ -1,5 +1,6 @@
--- The words of the contracts within this crate, by examples over the group of `ExamplesRead`: the index by consumer,
--- reports as they are made, and what a read leaves. They say the same as those of `ExamplesRead` and `ExamplesReport`.
+-- The definitions of the contracts within this crate, by examples over the group of `ExamplesRead`: the index by
+-- consumer, reports as they are made, and a group after a read. They have the same meaning as those of `ExamplesRead`
+-- and `ExamplesReport`.
 use Rattle.std.specs.Prelude.{◌≡◌, ℕ, true, false, [], ◌∷◌, codes, Some, None}
 use Rattle.xs_stream.specs.Examples.{at}
 use Rattle.xs_group.specs.declared.delivery.DeliveryKind.TheVariants as kind
@@ -28,7 +29,7 @@ pub record Indexes : Type 0 where
   pub isnt_there : has_pending_id owners (codes "d") (at 1 0) ≡ false
   pub no_set : has_among None (at 1 0) ≡ false
 
--- at most so many rows that are idle for so long
+-- at most this many rows that are idle for this many milliseconds
 abbrev pub first : ℕ → ℕ → Selection
 first limit min_idle = record { range = everything; min_idle = min_idle; moment = 150; limit = limit }
 

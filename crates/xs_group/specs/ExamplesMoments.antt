@@ -1,6 +1,6 @@
--- The moments of consumers, by examples over the group of `ExamplesRead`, whose consumers were made at 90. A real
--- Redis 7.0 gives a consumer the moment of each read and claim, also if nothing comes of it; here it is "own" to give
--- it only that of one that gave it something. (Redis, XINFO CONSUMERS: "idle".)
+-- The moments of consumers, by examples over the group of `ExamplesRead`, whose consumers were created at 90. A real
+-- Redis 7.0 gives a consumer the moment of each read and claim, also if it got nothing; here it is "own" to give it
+-- only the moment of one by which it got something. (Redis, XINFO CONSUMERS: "idle".)
 use Rattle.std.specs.Prelude.{◌≡◌, ℕ, true, false, List, [], ◌∷◌, codes, Some, None}
 use Rattle.xs_stream.specs.Examples.{at}
 use Rattle.xs_group.specs.GroupState.{GroupState, with_consumer, without_consumer, group_after_ack, is_any}
@@ -9,7 +9,7 @@ use Rattle.xs_group.specs.Claims.{group_after_claim}
 use Rattle.xs_group.specs.ExamplesRead.{group, present}
 use Rattle.xs_group.specs.ExamplesClaims.{idle_for}
 
--- the consumers a, b and c have these moments, and there is none besides
+-- the consumers a, b and c have these moments, and there are no others
 abbrev pub Have : GroupState → ℕ → ℕ → ℕ → Type 0
 Have group a b c = group.consumers.entries ≡ (codes "a", a) ∷ (codes "b", b) ∷ (codes "c", c) ∷ []
 

@@ -1,6 +1,6 @@
--- What reads, acknowledgements and consumers make of a group, by examples, as the Redis pages tell it (Redis Streams,
--- "Consumer groups"; XREADGROUP; XACK; XGROUP) and a real Redis 7.0 answers. Where a rule is this server's,
--- "own" says so.
+-- A group after reads, acknowledgements and changes of its consumers, by examples, by the Redis pages (Redis Streams,
+-- "Consumer groups"; XREADGROUP; XACK; XGROUP) and the replies of a real Redis 7.0. A rule that is this server's is
+-- marked "own".
 use Rattle.std.specs.Prelude.{◌≡◌, ℕ, ◌+◌, ◌^◌, true, false, List, [], ◌∷◌, map, codes, Some, None}
 use Rattle.xs_bytes.specs.MapOf.{from_entries}
 use Rattle.xs_bytes.specs.SortedMap.{keys}
@@ -16,7 +16,7 @@ use Rattle.xs_group.specs.Indexes.{rows_of}
 abbrev pub pending : Id → List ℕ → ℕ → ℕ → Id × RowState
 pending id consumer time count = (id, record { consumer = consumer; time = time; count = count })
 
--- consumers that were made at 90
+-- consumers that were created at 90
 abbrev pub names_in : List (List ℕ) → Consumers
 names_in names = from_entries (map (λ name. (name, 90)) names)
 

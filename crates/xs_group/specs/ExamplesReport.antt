@@ -1,5 +1,5 @@
--- What is pending, by examples, as the Redis page tells it (XPENDING) and a real Redis 7.0 answers. Where a rule is
--- this server's, "own" says so.
+-- What is pending, by examples, by the Redis page (XPENDING) and the replies of a real Redis 7.0. A rule that is this
+-- server's is marked "own".
 use Rattle.std.specs.Prelude.{◌≡◌, ℕ, ◌-◌, List, [], ◌∷◌, codes, Some, None}
 use Rattle.xs_stream.specs.declared.id.Id.{Id}
 use Rattle.xs_stream.specs.declared.range.Range.{Range}

@@ -1,4 +1,4 @@
--- What a group is: a cursor, consumers and pending rows; and what reads, acknowledgements and consumers make of it.
+-- A group: a cursor, consumers and pending rows; and how reads, acknowledgements and calls for consumers change it.
 -- (Redis Streams, "Consumer groups"; XREADGROUP; XACK; XGROUP CREATECONSUMER and DELCONSUMER.)
 use Rattle.std.specs.Prelude.{ℕ, ◌+◌, ◌-◌, Bool, true, false, not, List, Option, Some, None, nat_lt, if◌then◌else◌, ◌&&◌}
 use Rattle.std.specs.Prelude.{◌||◌, [], ◌∷◌, map, filter}
@@ -11,7 +11,7 @@ use Rattle.xs_stream.specs.declared.id.Id.{Id}
 use Rattle.xs_stream.specs.Id.{id_cmp, has_id, is_below}
 use Rattle.xs_stream.specs.StreamContent.{up_to_limit}
 
--- a pending entry: whose it is, and its time and count, of the last delivery or as a claim set them
+-- a pending entry: its consumer, and the time and the count of the last delivery, or those that a claim set
 pub record RowState : Type 0 where
   pub consumer : List ℕ
   pub time : ℕ
@@ -21,7 +21,7 @@ pub record RowState : Type 0 where
 abbrev pub Rows : Type 0
 Rows = SortedMap id_cmp RowState
 
--- the consumers, each with the moment when it was made, or last was given or claimed something
+-- the consumers, each with the moment when it was created, or was last given or claimed something
 abbrev pub Consumers : Type 0
 Consumers = NameMap ℕ
 
@@ -36,12 +36,12 @@ ids_total = then_total (on_total (λ s. s.ms) nat_cmp_total) (on_total (λ s. s.
 abbrev pub has_name : Consumers → List ℕ → Bool
 has_name consumers name = has_key consumers name
 
--- the consumer is there from now on; its moment is now if it is new, or is given something
+-- the consumer is in the group afterwards; its moment is now if it is new, or is given something
 abbrev pub with_name : Consumers → List ℕ → ℕ → Bool → Consumers
 with_name consumers name now given =
     if given || not (has_name consumers name) then insert consumers name now else consumers
 
--- whether there is any
+-- whether there are any
 abbrev pub is_any : List Id → Bool
 is_any [] = false
 is_any (x ∷ xs) = true
@@ -50,11 +50,11 @@ is_any (x ∷ xs) = true
 abbrev pub is_same_name : List ℕ → List ℕ → Bool
 is_same_name a b = eq_by_cmp (slice_cmp nat_cmp) a b
 
--- now minus the time of a row, which its last delivery or a claim gave it; 0 if that is later
+-- now minus the time of a row, which its last delivery or a claim gave it; 0 if the time is later
 abbrev pub idle_time : ℕ → ℕ → ℕ
 idle_time now time = now - time
 
--- a count stops here
+-- a count stops at this value
 abbrev pub greatest_count : ℕ
 greatest_count = 9223372036854775807
 
@@ -66,18 +66,18 @@ next_count count = if nat_lt count greatest_count then count + 1 else greatest_c
 abbrev pub new_group : Id → GroupState
 new_group start = record { cursor = start; consumers = empty; rows = empty }
 
--- the consumer is one of the group's from now on
+-- the consumer is in the group afterwards
 abbrev pub with_consumer : List ℕ → ℕ → GroupState → GroupState
 with_consumer consumer now group = record group { consumers = with_name group.consumers consumer now false }
 
--- an acknowledged row goes
+-- an acknowledged row is removed
 abbrev pub unless_acked : List Id → Id → RowState → Option RowState
 unless_acked ids x row = if has_id ids x then None else Some row
 
 abbrev pub group_after_ack : List Id → GroupState → GroupState
 group_after_ack ids group = record group { rows = change (unless_acked ids) group.rows }
 
--- a row of a removed consumer goes
+-- a row of a removed consumer is removed
 abbrev pub unless_owned : List ℕ → Id → RowState → Option RowState
 unless_owned consumer x row = if is_same_name row.consumer consumer then None else Some row
 
@@ -85,7 +85,7 @@ abbrev pub without_consumer : List ℕ → GroupState → GroupState
 without_consumer consumer group =
     record group { consumers = remove group.consumers consumer; rows = change (unless_owned consumer) group.rows }
 
--- what `>` delivers: of the ids in the stream those above the cursor, up to the limit
+-- the ids that `>` delivers: those of the stream above the cursor, up to the limit
 abbrev pub new_ids : Option ℕ → Id → List Id → List Id
 new_ids limit cursor present = up_to_limit limit (filter (λ x. is_below cursor x) present)
 
@@ -103,8 +103,8 @@ abbrev pub with_rows : List Id → RowState → Rows → Rows
 with_rows [] row rows = rows
 with_rows (x ∷ xs) row rows = with_rows xs row (insert_by ids_total rows x row)
 
--- a group after a read of new entries: the consumer is there, the cursor is the last id delivered,
--- and without NOACK the ids are pending
+-- a group after a read of new entries: it has the consumer, the cursor is the last id delivered, and without NOACK the
+-- ids are pending
 abbrev pub group_after_delivery : List ℕ → ℕ → Option ℕ → Bool → List Id → GroupState → GroupState
 group_after_delivery consumer now limit noack present group =
     let ids = new_ids limit group.cursor present in
@@ -119,7 +119,7 @@ group_after_delivery consumer now limit noack present group =
 abbrev pub ids_of_consumer : List ℕ → List (Id × RowState) → List Id
 ids_of_consumer consumer rows = map (λ e. e.0) (filter (λ e. is_same_name e.1.consumer consumer) rows)
 
--- what a read of own entries shows: the consumer's pending ids above an id, up to the limit
+-- the ids that a read of own entries shows: the consumer's pending ids above an id, up to the limit
 abbrev pub reread_ids : List ℕ → Option ℕ → Id → List (Id × RowState) → List Id
 reread_ids consumer limit from rows = up_to_limit limit (filter (λ x. is_below from x) (ids_of_consumer consumer rows))
 
@@ -127,7 +127,7 @@ reread_ids consumer limit from rows = up_to_limit limit (filter (λ x. is_below 
 abbrev pub redelivered_row : ℕ → RowState → RowState
 redelivered_row now row = record { consumer = row.consumer; time = now; count = next_count row.count }
 
--- what becomes of a row where these ids are shown: it is delivered once more if its entry is in the stream
+-- a row after these ids were shown: it is delivered once more if its entry is in the stream
 abbrev pub row_after_reread : ℕ → List Id → List Id → Id → RowState → Option RowState
 row_after_reread now ids present x row =
     if has_id ids x && has_id present x then Some (redelivered_row now row) else Some row

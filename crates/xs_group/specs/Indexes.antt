@@ -1,4 +1,4 @@
--- The consumers and the pending rows of a group, and what the two indexes of rows have in common.
+-- The consumers and the pending rows of a group, and how the two indexes of rows agree.
 use Rattle.std.specs.Prelude.{◌≡◌, ℕ, Bool, true, false, List, map, Option, Some, None, refl}
 use Rattle.std.specs.Coded.{Coded, code_by, coded×, coded_list, coded_ℕ}
 use Rattle.std.specs.Map.{lookup}
@@ -88,11 +88,11 @@ is_owner (Some row) name = is_same_name row.consumer name
 abbrev pub indexed_row : List (Id × RowState) → Id → Option RowState
 indexed_row rows x = lookup (is_at (id_cmp x)) rows
 
--- both indexes hold the same pairs
+-- both indexes have the same pairs
 abbrev pub IsAgreed : List (Id × RowState) → ConsumerIndex → Type 0
 IsAgreed rows owners = (name : List ℕ) → (x : Id) → has_pending_id owners name x ≡ is_owner (indexed_row rows x) name
 
--- each row's consumer is one of these
+-- the consumer of each row is one of these
 abbrev pub IsNamed : Consumers → Rows → Type 0
 IsNamed consumers rows =
     (name : List ℕ) → (x : Id) → is_owner (get rows x) name ≡ true → has_name consumers name ≡ true

@@ -12,7 +12,7 @@ abbrev pub owners_told : Consumers → Rows → List OwnerCount
 owners_told consumers rows =
     filter (λ owner. nat_lt 0 owner.count) (counts_of_owners (keys consumers) rows.entries)
 
--- the first of the rows that are asked for
+-- the first of the rows that are asked for, up to the limit
 abbrev pub selected_rows : Selection → Option (List ℕ) → Rows → List PendingRow
 selected_rows s consumer rows =
     let asked = filter (is_selected s.range s.min_idle s.moment consumer) rows.entries in

@@ -1,4 +1,4 @@
--- A pending row behind all others, as a group gets them that is put together row by row.
+-- A pending row after all others, for a group that is built row by row.
 use Rattle.std.specs.Prelude.{Bool, not, ◌&&◌, List, ℕ}
 use Rattle.std.specs.List.{list_all}
 use Rattle.xs_bytes.specs.SortedMap.{insert_by}
@@ -10,7 +10,7 @@ use Rattle.xs_group.specs.GroupState.{RowState, Rows, GroupState, ids_total, has
 abbrev pub is_past_rows : Id → Rows → Bool
 is_past_rows id rows = list_all (λ e. is_below e.0 id) rows.entries
 
--- the consumer may have the next row, at this id: the group has the consumer, and the id is above all rows, and not
+-- the consumer may get the next row, at this id: the consumer is in the group, and the id is above all rows, and not
 -- above the cursor
 abbrev pub is_next_row : List ℕ → Id → GroupState → Bool
 is_next_row consumer id group =

@@ -24,11 +24,11 @@ last_id (e ∷ f ∷ es) = last_id (f ∷ es)
 abbrev pub counts_of_owners : List (List ℕ) → List (Id × RowState) → List OwnerCount
 counts_of_owners names rows = map (λ name. record { consumer = name; count = length (ids_of_consumer name rows) }) names
 
--- how many rows a consumer has
+-- the number of rows of a consumer
 abbrev pub owned_count : List ℕ → GroupState → ℕ
 owned_count consumer group = length (ids_of_consumer consumer group.rows.entries)
 
--- XINFO CONSUMERS: each consumer with the number of its rows, its moment, and how long ago that is
+-- XINFO CONSUMERS: each consumer with the number of its rows, its moment, and the time since
 abbrev pub consumer_report : ℕ → GroupState → List ℕ × ℕ → ConsumerReport
 consumer_report now group c =
     record { consumer = c.0; pending = owned_count c.0 group; seen = c.1; idle = idle_time now c.1 }
@@ -36,15 +36,15 @@ consumer_report now group c =
 abbrev pub consumer_reports : ℕ → GroupState → List ConsumerReport
 consumer_reports now group = map (consumer_report now group) group.consumers.entries
 
--- the summary: how many rows, the least and the greatest id, and the consumers that have rows,
--- in the order of their bytes
+-- the summary: the number of rows, the least and the greatest id, and the consumers that have rows, in the order of
+-- their bytes
 abbrev pub summary_of : GroupState → GroupSummary
 summary_of group =
     let rows = group.rows.entries in
     let owners = filter (λ owner. nat_lt 0 owner.count) (counts_of_owners (keys group.consumers) rows) in
     record { total = length rows; least = first_id rows; greatest = last_id rows; owners = owners }
 
--- the row's consumer is the one that is named; any, if none is
+-- the row's consumer is the given one; any, if none is given
 abbrev pub is_of : Option (List ℕ) → RowState → Bool
 is_of None row = true
 is_of (Some consumer) row = is_same_name row.consumer consumer
@@ -59,7 +59,7 @@ pending_row now e =
       count = e.1.count;
     }
 
--- a row in a range that is idle for long enough, of the consumer where one is named
+-- a row in a range that is idle for long enough, of the given consumer, if one is given
 abbrev pub is_selected : Range → ℕ → ℕ → Option (List ℕ) → Id × RowState → Bool
 is_selected range min_idle now consumer e =
     is_within range e.0 && (nat_le min_idle (idle_time now e.1.time) && is_of consumer e.1)

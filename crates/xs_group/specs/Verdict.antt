@@ -1,4 +1,4 @@
--- What a claim makes of one id, and the scanned part, id by id.
+-- What a claim does with one id, and the scanned part, id by id.
 use Rattle.std.specs.Prelude.{◌≡◌, ℕ, ◌+◌, ◌*◌, Bool, true, false, ◌||◌, ◌&&◌, ◌⊎◌, List, [], ◌∷◌, ◌++◌, nat_le, Option}
 use Rattle.std.specs.Prelude.{Some, None, if◌then◌else◌}
 use Rattle.xs_stream.specs.declared.id.Id.{Id}
@@ -19,7 +19,7 @@ abbrev pub is_removed_by : Verdict → Bool
 is_removed_by Removed = true
 is_removed_by _ = false
 
--- how many hits it is
+-- the number of hits that it counts as
 abbrev pub hits_of : Verdict → ℕ
 hits_of Passed = 0
 hits_of _ = 1
@@ -36,18 +36,18 @@ with_taken verdict ids id = if is_taken_by verdict then ids ++ id ∷ [] else id
 abbrev pub with_removed : Verdict → List Id → Id → List Id
 with_removed verdict ids id = if is_removed_by verdict then ids ++ id ∷ [] else ids
 
--- the ids that are scanned after so many hits among so many ids
+-- the ids that are scanned after this many hits among this many ids
 abbrev pub ids_scanned_after : (Id → Bool) → ℕ → ℕ → ℕ → List Id → List Id
 ids_scanned_after hit limit hits seen [] = []
 ids_scanned_after hit limit hits seen (x ∷ xs) =
     if nat_le limit hits || nat_le (10 * limit) seen then []
     else x ∷ ids_scanned_after hit limit (hits + (if hit x then 1 else 0)) (seen + 1) xs
 
--- what becomes of a row where these ids are taken
+-- a row after these ids were claimed
 abbrev pub row_after_move : List ℕ → ℕ → ClaimRule → List Id → Id → RowState → Option RowState
 row_after_move consumer now rule ids x row = if has_id ids x then Some (claimed_row consumer now rule row) else Some row
 
--- no id stands twice
+-- no id is repeated
 abbrev pub AreDistinct : List Id → Type 0
 AreDistinct [] = Unit {0}
 AreDistinct (x ∷ xs) = (has_id xs x ≡ false) × AreDistinct xs
@@ -65,7 +65,7 @@ pub record IsScanned (group : GroupState) (now : ℕ) (rule : ClaimRule) (claim 
   pub limit : ℕ
   pub is : claim ≡ (scan_of group.rows.entries present now rule start limit).claim
 
--- a claim on a group as it stands
+-- a claim on the group in its present state
 abbrev pub IsClaimOn : GroupState → ℕ → ClaimRule → Claim → Type 0
 IsClaimOn group now rule claim = IsFound group now rule claim ⊎ IsScanned group now rule claim
 
@@ -73,7 +73,7 @@ IsClaimOn group now rule claim = IsFound group now rule claim ⊎ IsScanned grou
 abbrev pub AreSomeOf : List Id → List Id → Type 0
 AreSomeOf done ids = (x : Id) → has_id done x ≡ true → has_id ids x ≡ true
 
--- both indexes have the same pairs, but that by consumer has these ids of the consumer as well
+-- both indexes have the same pairs, except that the index by consumer has these ids of the consumer as well
 abbrev pub AreAgreedBut : List (Id × RowState) → ConsumerIndex → List ℕ → List Id → Type 0
 AreAgreedBut rows owners name ids =
     (n : List ℕ) → (x : Id) → has_pending_id owners n x

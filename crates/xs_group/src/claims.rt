@@ -1,4 +1,4 @@
-//! Claims: which pending entries go to another consumer, and what becomes of them (Redis, XCLAIM and XAUTOCLAIM).
+//! Claims: which pending entries move to another consumer, and how they change (Redis, XCLAIM and XAUTOCLAIM).
 ghost use Rattle.std.specs.Prelude.{IfOk, OnOk, Some, [], ◌≡◌};
 ghost use Rattle.xs_group.specs.Claims.{without_repeats, scan_of};
 ghost use Rattle.xs_group.specs.Indexes.{rows_of};
@@ -20,26 +20,26 @@ use xs_stream::{Id, Moment, Stream};
 pub enum ClaimTime {
     /// The moment of the claim.
     Now,
-    /// That many milliseconds before the moment of the claim, and 0 where the moment is less.
+    /// This many milliseconds before the moment of the claim; 0 if the moment is less.
     Idle(u64),
-    /// This moment in milliseconds, and that of the claim where this one is past it.
+    /// This moment in milliseconds; that of the claim if this one is after it.
     At(u64),
 }
 
-/// Which pending entries a claim takes, and what it makes of them.
+/// Which pending entries are claimed, and how they change.
 #[derive(Clone, Copy, Debug, PartialEq, Eq)]
 pub struct ClaimRule {
-    /// The idle time in milliseconds from which an entry is taken.
+    /// The least idle time in milliseconds of an entry that is claimed.
     pub min_idle: u64,
-    /// The time that it gets.
+    /// The time that the entry gets.
     pub when: ClaimTime,
-    /// The count of deliveries that it gets. With None the count goes up by one, unless `just_id` is set.
+    /// The count of deliveries that it gets. If None, the count rises by one, unless `just_id` is set.
     pub retry: Option<U63>,
-    /// The reply has ids alone, and without `retry` the count stays.
+    /// Whether the reply has only ids. Then, without `retry`, the count stays.
     pub just_id: bool,
 }
 
-/// By what an entry is claimed.
+/// The moment and the rule of a claim.
 #[derive(Drop)]
 pub(crate) struct ClaimTerms {
     /// The moment of the claim.
@@ -48,7 +48,7 @@ pub(crate) struct ClaimTerms {
     pub(crate) rule: ClaimRule,
 }
 
-/// What a claim takes and removes, each in the order in which it was met.
+/// What a claim takes and removes, each in the order in which it was found.
 #[derive(Debug, Drop)]
 pub struct Claim {
     /// The entries that get the new consumer.
@@ -57,28 +57,28 @@ pub struct Claim {
     pub removed: List<Id>,
 }
 
-/// What a scan finds.
+/// The result of a scan.
 #[derive(Debug, Drop)]
 pub struct Scan {
-    /// Where the next scan goes on, `0-0` at the end.
+    /// The id at which the next scan goes on; `0-0` at the end.
     pub cursor: Id,
-    /// What the scanned part takes and removes.
+    /// The entries of the scanned part that are claimed or removed.
     pub claim: Claim,
 }
 
-/// What a claim makes of an id.
+/// What a claim does with an id.
 #[derive(Clone, Copy, Debug, PartialEq, Eq)]
 pub(crate) enum Verdict {
-    /// It isn't pending, or hasn't been for long enough.
+    /// It isn't pending, or isn't idle for long enough.
     Passed,
     /// It gets the new consumer.
     Taken,
-    /// It is no longer in the stream, and goes.
+    /// It is no longer in the stream, and is removed.
     Removed,
 }
 
 impl Verdict {
-    /// 1 where a scan claims or removes the id, else 0.
+    /// 1 if a scan claims or removes the id, else 0.
     pub(crate) fn hits(self) -> u64
         ensures { result ≡ hits_of self }
     {
@@ -89,7 +89,7 @@ impl Verdict {
     }
 }
 
-/// A claim as it grows.
+/// A claim while it is built.
 #[derive(Drop)]
 pub(crate) struct Found {
     take: Vec<Id>,
@@ -107,7 +107,7 @@ impl Found {
         }
     }
 
-    /// Puts an id where its verdict says.
+    /// Adds an id by its verdict.
     pub(crate) fn add(&mut self, verdict: Verdict, id: Id) -> Result<(), AllocError>
         ensures take { OnOk result (self.new.take.items ≡ with_taken verdict self.old.take.items id) }
         ensures removed { OnOk result (self.new.removed.items ≡ with_removed verdict self.old.removed.items id) }
@@ -164,7 +164,7 @@ pub(crate) fn without_repeats(alloc: Global, ids: &[Id]) -> Result<Vec<Id>, Allo
     Ok(kept)
 }
 
-/// What a claim makes of the rows from a start upwards, until there are enough.
+/// The result of a claim of the rows from a start upwards, until there are enough.
 pub(crate) fn scan_rows(
     alloc: Global,
     rows: &IdIndex,

@@ -1,4 +1,4 @@
-//! The index by consumer: of each the moment, and the ids of its pending entries.
+//! The index by consumer: the moment of each, and the ids of its pending entries.
 ghost use Rattle.std.specs.Prelude.{◌≡◌, ◌&&◌, ◌||◌, ℕ, List, not, OnOk, OnErr, IsSome, None, if◌then◌else◌};
 ghost use Rattle.std.specs.BTreeSet.{contains};
 ghost use Rattle.xs_stream.specs.declared.id.Id.{Id};
@@ -13,10 +13,10 @@ use xs_bytes::Bytes;
 use xs_maps::{SmallMap, SmallSet};
 use xs_stream::{Id, Moment};
 
-/// What is known of a consumer.
+/// A consumer in the index.
 #[derive(Drop)]
 pub(crate) struct Owner {
-    /// When it was made, or last was given or claimed something.
+    /// The moment when it was created, or was last given or claimed something.
     pub(crate) seen: Moment,
     /// The ids of its pending entries.
     pub(crate) ids: SmallSet<Id>,
@@ -25,7 +25,7 @@ pub(crate) struct Owner {
 /// The consumers, by name.
 pub(crate) type ConsumerIndex = SmallMap<Bytes, Owner>;
 
-/// Puts these ids into a set, or, for want of memory, some of them.
+/// Inserts these ids into a set; or only some of them, if memory runs out.
 fn insert_ids(own: &mut SmallSet<Id>, ids: &[Id]) -> Result<(), AllocError>
     ensures ok { OnOk result ((x : Id) → contains id_cmp own.new x ≡ (contains id_cmp own.old x || has_id ids.now x)) }
     ensures err { OnErr result ((done : List Id) × AreSomeOf done ids.now
@@ -39,7 +39,7 @@ fn insert_ids(own: &mut SmallSet<Id>, ids: &[Id]) -> Result<(), AllocError>
     Ok(())
 }
 
-/// Gives a consumer these ids, or, for want of memory, some of them. Their rows don't say so yet.
+/// Gives a consumer these ids; or only some of them, if memory runs out. Their rows aren't changed.
 pub(crate) fn put_ids(
     owners: &mut ConsumerIndex,
     name: &Bytes,
@@ -59,7 +59,7 @@ pub(crate) fn put_ids(
     insert_ids(&mut owner.ids, ids)
 }
 
-/// Takes an id from a consumer.
+/// Removes an id from a consumer.
 pub(crate) fn remove_id(owners: &mut ConsumerIndex, name: &Bytes, id: Id)
     ensures seen { (n : List ℕ) → seen_at owners.new.entries n ≡ seen_at owners.old.entries n }
     ensures ids { (n : List ℕ) → (x : Id) → has_pending_id owners.new.entries n x
@@ -70,7 +70,7 @@ pub(crate) fn remove_id(owners: &mut ConsumerIndex, name: &Bytes, id: Id)
     }
 }
 
-/// Takes the rows of these ids out.
+/// Removes the rows of these ids.
 pub(crate) fn remove_rows(rows: &mut IdIndex, ids: &SmallSet<Id>)
     ensures { (x : Id) → indexed_row rows.new.entries x
         ≡ (if contains id_cmp ids.now x then None else indexed_row rows.old.entries x) }

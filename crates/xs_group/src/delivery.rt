@@ -2,12 +2,12 @@
 use xs_bytes::{Bytes, List, U63};
 use xs_stream::{Entry, Id, Moment};
 
-/// When an entry was last delivered to its consumer, and how often it has been.
+/// When an entry was last delivered to its consumer, and how often it was delivered.
 #[derive(Clone, Copy, Debug, PartialEq, Eq)]
 pub struct Touch {
     /// The moment from which its idle time is counted.
     pub time: Moment,
-    /// How often it was delivered.
+    /// The number of deliveries.
     pub count: U63,
 }
 
@@ -16,7 +16,7 @@ pub struct Touch {
 pub struct DeliveryRow {
     /// The id of the entry.
     pub id: Id,
-    /// The entry is in the stream.
+    /// Whether the entry is in the stream.
     pub present: bool,
     /// Its time and count before a read of the consumer's own entries; None for a delivery.
     pub before: Option<Touch>,
@@ -33,18 +33,18 @@ pub enum DeliveryKind {
     History,
 }
 
-/// A read of a group, with what `Group::undo` needs to take it back.
+/// A read of a group, with what `Group::undo` needs.
 #[derive(Debug, Drop)]
 pub struct Delivery {
     /// The consumer that read.
     pub consumer: Bytes,
-    /// The consumer was new.
+    /// Whether the consumer was new.
     pub created: bool,
-    /// The moment of the consumer before the read, if it was there.
+    /// The moment of the consumer before the read, if it was in the group.
     pub seen_before: Option<Moment>,
     /// The group's cursor before the read.
     pub cursor_before: Id,
-    /// What was read.
+    /// The kind of the read.
     pub kind: DeliveryKind,
     /// The entries delivered or shown.
     pub rows: List<DeliveryRow>,
@@ -53,7 +53,7 @@ pub struct Delivery {
 /// A read of a group, and entries of its stream to look at side by side with the rows.
 #[derive(Drop)]
 pub struct GroupRead<'a> {
-    /// What was read.
+    /// The read.
     pub delivery: Delivery,
     /// The entries. They are lent, and each is the one that a search for its id finds.
     pub entries: List<Entry<'a>>,

@@ -1,4 +1,4 @@
-//! Examples of what the definitions say, with values from outside.
+//! Examples of the definitions, with expected values from outside.
 #![tactic(auto, unfolding(crate::proofs::Computing::example_functions))]
 
 ghost use Rattle.xs_group.specs.ExamplesRead.{Counts, Members, Acknowledged, New, Own};
@@ -63,7 +63,7 @@ pub fn moments()
     ensures { Moments }
 {}
 
-/// The consumers, as they are told.
+/// The reports of consumers.
 pub fn reports()
     ensures { Reports }
 {}
@@ -73,22 +73,22 @@ pub fn rows()
     ensures { Rows }
 {}
 
-/// What reads answer.
+/// What reads return.
 pub fn answers()
     ensures { Answers }
 {}
 
-/// Reads that are taken back.
+/// Reads that are undone.
 pub fn taken_back()
     ensures { TakenBack }
 {}
 
-/// What a claim makes of one id.
+/// What a claim does with one id.
 pub fn verdicts()
     ensures { Verdicts }
 {}
 
-/// What holds of every group.
+/// What is true of every group.
 pub fn consistent()
     ensures { Consistent }
 {}
@@ -103,7 +103,7 @@ pub fn listed()
     ensures { Listed }
 {}
 
-/// What a read leaves.
+/// A group after a read.
 pub fn left()
     ensures { Left }
 {}

@@ -25,17 +25,17 @@ use std::marker::Model;
 use xs_bytes::{Bytes, List, U63};
 use xs_stream::{Id, Moment, Range, Stream, ids_of};
 
-/// How many bytes a group of no consumers is counted with.
+/// The number of bytes that a group without consumers is counted with.
 const GROUP_ROOM: u128 = 205;
 
-/// How many bytes a place of a small map is counted with, for rows in both indexes.
+/// The number of bytes that a place of a small map is counted with, for rows in both indexes.
 const PLACE_ROOM: u128 = 61;
 
-/// How many bytes a node of a great map is counted with.
+/// The number of bytes that a node of a large map is counted with.
 const NODE_ROOM: u128 = 960;
 
-/// How many bytes a map of so many entries is counted with. Up to eight are in a vector, up to fifteen in a node, more
-/// in a tree of nodes that have eight each.
+/// The number of bytes that a map of `count` entries is counted with. Up to eight are in a vector, up to fifteen in a
+/// node, more in a tree of nodes that have eight each.
 fn room_of_map(count: usize) -> u128
     ensures { result ≡ room_of_map count }
 {
@@ -50,13 +50,13 @@ fn room_of_map(count: usize) -> u128
     }
 }
 
-/// A consumer group. A contract sees its cursor, its consumers and its pending rows. A call that is
-/// refused for want of memory leaves the group as it was.
+/// A consumer group. A contract sees its cursor, its consumers and its pending rows. If memory runs out in a call, the
+/// group is unchanged.
 #[derive(Drop)]
 pub struct Group {
     cursor: Id,
     pending: Pending,
-    /// How many bytes the consumers' names have.
+    /// The number of bytes of the consumers' names.
     name_bytes: u64,
 }
 
@@ -86,7 +86,7 @@ impl Group {
         }
     }
 
-    /// How many bytes it is counted with.
+    /// The number of bytes of memory that it is counted with.
     pub fn room(&self) -> u128
         ensures { result ≡ room_of_group self.now }
     {
@@ -95,7 +95,7 @@ impl Group {
         GROUP_ROOM + consumers + self.name_bytes as u128 + rows
     }
 
-    /// How many bytes the names have with this one more. More than 2^64 are refused, as other memory is.
+    /// The number of bytes of the names with this one more. More than 2^64 are refused, as if memory ran out.
     fn name_bytes_with(&self, consumer: &Bytes) -> Result<u64, AllocError>
         ensures { IfOk result (λ bytes. bytes ≡ bytes_of_names self.now.consumers + length consumer.now) }
     {
@@ -135,14 +135,14 @@ impl Group {
         self.pending.iter_rows()
     }
 
-    /// Whether the consumer is one of the group.
+    /// Whether the consumer is in the group.
     pub fn has_consumer(&self, consumer: &Bytes) -> bool
         ensures { result ≡ has_name self.now.consumers consumer.now }
     {
         self.pending.has_consumer(consumer)
     }
 
-    /// How many consumers it has.
+    /// The number of consumers.
     pub fn count_consumers(&self) -> u64
         ensures value { result ≡ length self.now.consumers.entries }
         ensures small { result < 2 ^ 63 }
@@ -150,7 +150,7 @@ impl Group {
         self.pending.count_consumers() as u64
     }
 
-    /// How many entries are pending.
+    /// The number of pending entries.
     pub fn count_pending(&self) -> u64
         ensures value { result ≡ length self.now.rows.entries }
         ensures small { result < 2 ^ 63 }
@@ -158,7 +158,7 @@ impl Group {
         self.pending.len() as u64
     }
 
-    /// Takes these ids out of what is pending, and says how many were (XACK). It takes no memory.
+    /// Removes these ids from the pending entries, and returns how many were pending (XACK). It takes no memory.
     pub fn ack(&mut self, ids: &[Id]) -> u64
         ensures rows { self.new ≡ group_after_ack ids.now self.old }
         ensures count { result + length self.new.rows.entries ≡ length self.old.rows.entries }
@@ -169,7 +169,7 @@ impl Group {
         (before - self.pending.len()) as u64
     }
 
-    /// Makes a consumer, and says whether it is new (XGROUP CREATECONSUMER).
+    /// Creates a consumer, and returns whether it is new (XGROUP CREATECONSUMER).
     pub fn add_consumer(
         &mut self,
         alloc: Global,
@@ -186,8 +186,7 @@ impl Group {
         Ok(made)
     }
 
-    /// Removes a consumer with its pending entries, and says how many there were (XGROUP
-    /// DELCONSUMER). It takes no memory.
+    /// Removes a consumer with its pending entries, and returns their number (XGROUP DELCONSUMER). It takes no memory.
     pub fn remove_consumer(&mut self, consumer: &Bytes) -> u64
         ensures rows { self.new ≡ without_consumer consumer.now self.old }
         ensures count { result ≡ owned_count consumer.now self.old }
@@ -199,9 +198,9 @@ impl Group {
         count
     }
 
-    /// Puts a pending row behind the others, with its time and its count, into a group that is read from a snapshot; and
-    /// says whether it did. It refuses, and changes nothing, a consumer that isn't one of the group, an id above the
-    /// cursor, and an id that isn't above those of all rows.
+    /// Appends a pending row after the others, with its time and its count, to a group that is read from a snapshot.
+    /// Returns whether it did. It refuses, and changes nothing, if the consumer isn't in the group, or the id is above
+    /// the cursor or not above those of all rows.
     pub fn restore_row(
         &mut self,
         alloc: Global,
@@ -226,15 +225,15 @@ impl Group {
         Ok(true)
     }
 
-    /// Whether the consumer may have the next row, at this id.
+    /// Whether the consumer may get the next row, at this id.
     fn can_be_next(&self, consumer: &Bytes, id: Id) -> bool
         ensures { result ≡ is_next_row consumer.now id self.now }
     {
         self.pending.has_consumer(consumer) && id <= self.cursor && self.pending.is_past_rows(id)
     }
 
-    /// Delivers the entries above the cursor to a consumer, who is there from then on (XREADGROUP with
-    /// `>`). With `noack` they don't become pending.
+    /// Delivers the entries above the cursor to a consumer, which is created if it is missing (XREADGROUP with `>`).
+    /// With `noack` they don't become pending.
     pub fn deliver<'a>(
         &mut self,
         alloc: Global,
@@ -270,8 +269,8 @@ impl Group {
         Ok(GroupRead { delivery, entries })
     }
 
-    /// Shows a consumer its own pending entries above an id, and delivers those that are in the stream
-    /// once more (XREADGROUP with an id). The consumer is there from then on.
+    /// Shows a consumer its own pending entries above an id, and delivers those that are in the stream once more
+    /// (XREADGROUP with an id). The consumer is created if it is missing.
     pub fn history<'a>(
         &mut self,
         alloc: Global,
@@ -312,8 +311,8 @@ impl Group {
         Ok(GroupRead { delivery, entries })
     }
 
-    /// Takes back the read that answered this delivery, where it was the last call that changed the
-    /// group: cursor, consumers and rows are what they were before it. It takes no memory.
+    /// Undoes the read that returned this delivery, if it was the last call that changed the group: cursor, consumers
+    /// and rows are as before it. It takes no memory.
     pub fn undo(&mut self, delivery: Delivery)
         requires { (before : GroupState) × IsMade before self.old delivery }
         ensures { (before : GroupState) → IsMade before self.old delivery → self.new ≡ before }
@@ -325,7 +324,7 @@ impl Group {
         self.name_bytes -= either(delivery.seen_before.is_none(), name, 0);
     }
 
-    /// What a claim of these ids takes and removes (XCLAIM). It changes nothing.
+    /// The entries that a claim of these ids takes and removes (XCLAIM). It changes nothing.
     pub fn find_claim(
         &self,
         alloc: Global,
@@ -346,9 +345,9 @@ impl Group {
             .claim_among(alloc, stream, &terms, distinct.as_slice())
     }
 
-    /// What a claim of the pending entries from a start upwards takes and removes, and where the next
-    /// one goes on (XAUTOCLAIM). It looks at the ids until it has met `limit` of them to take or remove,
-    /// or 10 times `limit` in all. It changes nothing.
+    /// The entries that a claim of the pending entries from a start upwards takes and removes, and where the next one
+    /// goes on (XAUTOCLAIM). It stops after `limit` entries to take or remove, or after 10 times `limit` in all. It
+    /// changes nothing.
     pub fn scan(
         &self,
         alloc: Global,
@@ -368,8 +367,8 @@ impl Group {
         self.pending.scan(alloc, stream, &terms, start, limit)
     }
 
-    /// Carries out a claim that `find_claim` or `scan` found on this group as it stands, at the same
-    /// moment and by the same rule, for a consumer, who is there from then on.
+    /// Carries out a claim that `find_claim` or `scan` found on this group in its present state, at the same moment and
+    /// by the same rule. The consumer is created if it is missing.
     pub fn settle(
         &mut self,
         alloc: Global,
@@ -393,16 +392,16 @@ impl Group {
         Ok(())
     }
 
-    /// How many entries are pending, the least and the greatest of their ids, and whose they are
-    /// (XPENDING, short form).
+    /// The number of pending entries, the least and the greatest of their ids, and their consumers (XPENDING, short
+    /// form).
     pub fn summary(&self, alloc: Global) -> Result<GroupSummary, AllocError>
         ensures { IfOk result (λ summary. summary ≡ summary_of self.now) }
     {
         self.pending.summary(alloc)
     }
 
-    /// The pending entries of a range that are idle for `min_idle` milliseconds or longer, of one
-    /// consumer where one is named, at most `limit` of them (XPENDING, long form).
+    /// The pending entries of a range that are idle for at least `min_idle` milliseconds, at most `limit` of them; if a
+    /// consumer is given, only its own (XPENDING, long form).
     pub fn pending(
         &self,
         alloc: Global,
@@ -471,7 +470,7 @@ fn kind_of(noack: bool) -> DeliveryKind
     DeliveryKind::New
 }
 
-/// One of two numbers.
+/// `one` if `first` is true, else `other`.
 fn either(first: bool, one: u64, other: u64) -> u64
     ensures { result ≡ (if first then one else other) }
 {

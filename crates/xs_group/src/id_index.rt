@@ -15,7 +15,7 @@ use xs_stream::{Id, Moment};
 /// The pending entries by id.
 pub(crate) type IdIndex = SmallMap<Id, PendingEntry>;
 
-/// Puts in a row that is delivered for the first time.
+/// Inserts a row that is delivered for the first time.
 fn put_row(rows: &mut IdIndex, name: &Name, now: Moment, id: Id) -> Result<(), AllocError>
     ensures ok { OnOk result ((x : Id) → indexed_row rows.new.entries x
         ≡ (if is_same_id x id then Some (first_row name.now now) else indexed_row rows.old.entries x)) }
@@ -25,7 +25,7 @@ fn put_row(rows: &mut IdIndex, name: &Name, now: Moment, id: Id) -> Result<(), A
     rows.insert(id, PendingEntry::new(consumer, now, U63::new(1)))
 }
 
-/// Takes the rows of these ids out. It takes no memory.
+/// Removes the rows of these ids. It takes no memory.
 fn remove_rows(rows: &mut IdIndex, ids: &[Id])
     ensures { (x : Id) → indexed_row rows.new.entries x
         ≡ (if has_id ids.now x then None else indexed_row rows.old.entries x) }
@@ -35,7 +35,8 @@ fn remove_rows(rows: &mut IdIndex, ids: &[Id])
     }
 }
 
-/// Puts in a row for each of these ids, which have none, as delivered for the first time; or none at all.
+/// Inserts a row for each of these ids, which have none, as delivered for the first time. If memory runs out, none is
+/// inserted.
 pub(crate) fn put_rows(
     rows: &mut IdIndex,
     name: &Name,

@@ -11,8 +11,8 @@ use xs_bytes::Bytes;
 use xs_maps::Entries;
 use xs_stream::{Id, Moment};
 
-/// The consumers of a group in the order of their names, each with the moment when it was last seen. They are lent one
-/// by one. A contract sees the list of those that are left.
+/// The consumers of a group in the order of their names, each with its moment. They are lent one by one. A contract
+/// sees the list of those that are left.
 #[derive(Drop)]
 pub struct LentConsumers<'a> {
     owners: Entries<'a, Bytes, Owner>,
@@ -49,7 +49,7 @@ impl<'a> Iterator for LentConsumers<'a> {
     }
 }
 
-/// A pending row, lent by its group: the entry's id, and what is known of it. A contract sees the pair.
+/// A pending row, lent by its group: the entry's id, and its row. A contract sees the pair.
 #[derive(Drop)]
 pub struct LentRow<'a> {
     id: Id,

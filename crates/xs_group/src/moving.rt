@@ -1,4 +1,4 @@
-//! Both indexes in step: entries that are given to a consumer, taken back, or go to another one.
+//! Changes of both indexes: entries that are given to a consumer, given back, or move to another one.
 ghost use Rattle.std.specs.Prelude.{◌≡◌, ◌∷◌, [], ◌&&◌, ℕ, List, Option, true, false, not, map, is_some};
 ghost use Rattle.std.specs.Prelude.{option_and_then, IfOk, IfSome, if◌then◌else◌, OnOk, OnErr, IsSome};
 ghost use Rattle.xs_stream.specs.declared.id.Id.{Id};
@@ -16,14 +16,14 @@ use std::alloc::{AllocError, Global};
 use xs_bytes::Bytes;
 use xs_stream::Id;
 
-/// The same name.
+/// Whether the names are the same.
 fn are_equal_names(a: &Bytes, b: &Bytes) -> bool
     ensures { result ≡ is_same_name a.now b.now }
 {
     a.cmp(b).is_eq()
 }
 
-/// A row of a consumer, where it has one.
+/// The row of an id, if this consumer has it.
 pub(crate) fn row_of<'a>(
     rows: &'a IdIndex,
     owners: &ConsumerIndex,
@@ -42,7 +42,7 @@ pub(crate) fn row_of<'a>(
     Some(entry)
 }
 
-/// The name once for each of these ids.
+/// The name, shared once for each of these ids.
 pub(crate) fn shares(alloc: Global, name: &Name, ids: &[Id]) -> Result<Vec<Name>, AllocError>
     ensures { IfOk result (λ names. names.items ≡ map (λ x. name.now) ids.now) }
 {
@@ -53,7 +53,7 @@ pub(crate) fn shares(alloc: Global, name: &Name, ids: &[Id]) -> Result<Vec<Name>
     Ok(names)
 }
 
-/// The row of an id is this consumer's.
+/// Whether the row of an id is this consumer's.
 fn is_row_of(rows: &IdIndex, name: &Bytes, id: Id) -> bool
     ensures { result ≡ is_owner (indexed_row rows.now.entries id) name.now }
 {
@@ -63,7 +63,7 @@ fn is_row_of(rows: &IdIndex, name: &Bytes, id: Id) -> bool
     }
 }
 
-/// Takes an id from a consumer, unless its row is that consumer's.
+/// Removes an id from a consumer, unless its row is that consumer's.
 fn take_back_one(rows: &IdIndex, owners: &mut ConsumerIndex, name: &Bytes, id: Id)
     ensures seen { (n : List ℕ) → seen_at owners.new.entries n ≡ seen_at owners.old.entries n }
     ensures ids { (n : List ℕ) → (x : Id) → has_pending_id owners.new.entries n x
@@ -77,7 +77,7 @@ fn take_back_one(rows: &IdIndex, owners: &mut ConsumerIndex, name: &Bytes, id: I
     consumer_index::remove_id(owners, name, id);
 }
 
-/// Takes ids from a consumer whose rows aren't that consumer's. It takes no memory.
+/// Removes ids from a consumer if their rows aren't that consumer's. It takes no memory.
 pub(crate) fn take_back(rows: &IdIndex, owners: &mut ConsumerIndex, name: &Bytes, ids: &[Id])
     requires { (done : List Id) × AreSomeOf done ids.now
         × AreAgreedBut rows.now.entries owners.old.entries name.now done }
@@ -89,7 +89,7 @@ pub(crate) fn take_back(rows: &IdIndex, owners: &mut ConsumerIndex, name: &Bytes
     }
 }
 
-/// Gives a consumer these ids, though their rows don't say so yet, or none of them.
+/// Gives a consumer these ids, without changing their rows. If memory runs out, it gets none.
 pub(crate) fn add_ids(
     rows: &IdIndex,
     owners: &mut ConsumerIndex,
@@ -109,7 +109,7 @@ pub(crate) fn add_ids(
     Ok(())
 }
 
-/// Takes an id from the consumer whose it was, unless that is the one who gets it.
+/// Removes an id from the consumer that had it, unless that is the one that gets it.
 fn leave_owner(owners: &mut ConsumerIndex, old: &Bytes, name: &Bytes, id: Id)
     ensures seen { (n : List ℕ) → seen_at owners.new.entries n ≡ seen_at owners.old.entries n }
     ensures ids { (n : List ℕ) → (x : Id) → has_pending_id owners.new.entries n x
@@ -122,7 +122,7 @@ fn leave_owner(owners: &mut ConsumerIndex, old: &Bytes, name: &Bytes, id: Id)
     consumer_index::remove_id(owners, old, id);
 }
 
-/// Gives one row to a consumer that has its id already.
+/// Gives one row to a consumer that already has its id.
 fn move_row(
     rows: &mut IdIndex,
     owners: &mut ConsumerIndex,
@@ -148,7 +148,7 @@ fn move_row(
     entry.claim(share, terms);
 }
 
-/// Gives rows to a consumer that has their ids already. It takes no memory.
+/// Gives rows to a consumer that already has their ids. It takes no memory.
 pub(crate) fn move_rows(
     rows: &mut IdIndex,
     owners: &mut ConsumerIndex,

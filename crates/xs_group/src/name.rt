@@ -22,7 +22,7 @@ impl Model for Name {
 }
 
 impl Name {
-    /// A copy of a text, to be shared.
+    /// A copy of a text, which can be shared.
     pub(crate) fn new(alloc: Global, text: &Bytes) -> Result<Self, AllocError>
         ensures { IfOk result (λ n. n ≡ text.now) }
     {
@@ -33,7 +33,7 @@ impl Name {
         }
     }
 
-    /// The same name once more. It takes no memory.
+    /// A second handle of the same name. It takes no memory.
     pub(crate) fn share(&self) -> Result<Self, AllocError>
         ensures { IfOk result (λ n. n ≡ self.now) }
     {

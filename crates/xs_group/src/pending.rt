@@ -33,7 +33,7 @@ use xs_bytes::{Bytes, List, U63};
 use xs_maps::{SmallMap, SmallSet};
 use xs_stream::{Entry, Id, Moment, Stream};
 
-/// The consumers and the pending entries. Both indexes hold the same pairs of a consumer and an id.
+/// The consumers and the pending entries. Both indexes have the same pairs of a consumer and an id.
 #[derive(Drop)]
 pub(crate) struct Pending {
     rows: IdIndex,
@@ -53,7 +53,7 @@ impl Model for Pending {
 }
 
 impl Pending {
-    /// No consumer, and nothing pending. It takes no memory.
+    /// No consumers, and nothing pending. It takes no memory.
     pub(crate) fn new(alloc: Global) -> Self
         ensures { result ≡ record { consumers = empty; rows = empty } }
     {
@@ -94,7 +94,7 @@ impl Pending {
         }
     }
 
-    /// Sets the moment of a consumer that is there.
+    /// Sets the moment of a consumer that is in the group.
     pub(crate) fn set_seen(&mut self, name: &Bytes, seen: Moment)
         ensures { self.new ≡ record self.old { consumers = with_seen self.old.consumers name.now seen } }
     {
@@ -104,7 +104,7 @@ impl Pending {
         owner.seen = seen;
     }
 
-    /// A consumer that is there is given something, or nothing, at this moment.
+    /// Gives a consumer of the group this moment, if it is given something.
     pub(crate) fn give(&mut self, name: &Bytes, now: Moment, given: bool)
         requires { has_name self.old.consumers name.now ≡ true }
         ensures { self.new ≡ record self.old { consumers = with_name self.old.consumers name.now now given } }
@@ -114,7 +114,7 @@ impl Pending {
         }
     }
 
-    /// Puts a consumer in, and says whether it is new. A new one has no rows.
+    /// Inserts a consumer, and returns whether it is new. A new one has no rows.
     pub(crate) fn add_consumer(
         &mut self,
         alloc: Global,
@@ -141,7 +141,7 @@ impl Pending {
         Ok(true)
     }
 
-    /// Takes an id out.
+    /// Removes an id.
     fn take(&mut self, id: Id)
         ensures { self.new ≡ record self.old { rows = remove self.old.rows id } }
     {
@@ -150,7 +150,7 @@ impl Pending {
         }
     }
 
-    /// The name of a consumer, shared with a row of it where it has one.
+    /// The name of a consumer, shared with a row of it if it has one.
     fn shared_name(&self, alloc: Global, name: &Bytes) -> Result<Name, AllocError>
         ensures { IfOk result (λ shared. shared ≡ name.now) }
     {
@@ -183,7 +183,7 @@ impl Pending {
         Ok(())
     }
 
-    /// Puts in a row of a consumer that is there, at an id that has none, with its time and its count.
+    /// Inserts a row of a consumer of the group, at an id that has none, with its time and its count.
     pub(crate) fn put(
         &mut self,
         alloc: Global,
@@ -220,7 +220,7 @@ impl Pending {
         }
     }
 
-    /// Makes ids pending with a consumer, who is there from then on, and says whether it is new.
+    /// Makes ids pending with a consumer, which is created if it is missing, and returns whether it is new.
     pub(crate) fn deliver(
         &mut self,
         alloc: Global,
@@ -274,7 +274,7 @@ impl Pending {
         }
     }
 
-    /// The rows of entries that are shown. An entry that stands among those that are lent, at the place of its id, isn't
+    /// The rows of entries that are shown. An entry that is among those that are lent, at the place of its id, isn't
     /// looked up.
     pub(crate) fn shown_rows(
         &self,
@@ -327,7 +327,7 @@ impl Pending {
         }
     }
 
-    /// Delivers these rows once more to the consumer whose they are, those of entries that are in the stream.
+    /// Delivers the rows whose entries are in the stream once more to their consumer.
     pub(crate) fn redeliver(&mut self, name: &Bytes, now: Moment, rows: &[DeliveryRow])
         requires { has_name self.old.consumers name.now ≡ true }
         ensures { self.new ≡ record {
@@ -339,7 +339,7 @@ impl Pending {
         self.give(name, now, reading::is_any_present(rows));
     }
 
-    /// Takes the ids of these rows out.
+    /// Removes the ids of these rows.
     pub(crate) fn take_rows(&mut self, rows: &[DeliveryRow])
         ensures { self.new ≡ record self.old { rows = change (unless_acked (row_ids rows.now)) self.old.rows } }
     {
@@ -348,7 +348,7 @@ impl Pending {
         }
     }
 
-    /// Takes back what a read did to these rows.
+    /// Undoes the changes of a read to these rows.
     fn take_back(&mut self, kind: DeliveryKind, rows: &[DeliveryRow])
         ensures { self.new ≡ record self.old { rows = rows_taken_back kind rows.now self.old.rows } }
     {
@@ -359,7 +359,7 @@ impl Pending {
         }
     }
 
-    /// Takes back what a read did to the consumers and the rows.
+    /// Undoes the changes of a read to the consumers and the rows.
     pub(crate) fn undo(&mut self, delivery: &Delivery)
         ensures { self.new ≡ list_without_delivery delivery.now self.old }
     {
@@ -372,7 +372,7 @@ impl Pending {
         }
     }
 
-    /// What a claim makes of an id.
+    /// What a claim does with an id.
     fn verdict(&self, stream: &Stream, terms: &ClaimTerms, id: Id) -> Verdict
         ensures { result ≡ verdict_of (get self.now.rows id) (has_id (ids_of stream.now.entries) id)
             terms.now.moment terms.now.rule }
@@ -383,7 +383,7 @@ impl Pending {
         }
     }
 
-    /// What a claim makes of these ids.
+    /// The result of a claim of these ids.
     pub(crate) fn claim_among(
         &self,
         alloc: Global,
@@ -402,7 +402,7 @@ impl Pending {
         Ok(found.into_claim())
     }
 
-    /// What a claim makes of the ids from a start upwards, until there are enough.
+    /// The result of a claim of the ids from a start upwards, until there are enough.
     pub(crate) fn scan(
         &self,
         alloc: Global,
@@ -439,7 +439,7 @@ impl Pending {
         Ok(())
     }
 
-    /// Carries a claim out for a consumer, who is there from then on.
+    /// Carries out a claim for a consumer, which is created if it is missing.
     pub(crate) fn settle(
         &mut self,
         alloc: Global,
@@ -466,7 +466,7 @@ impl Pending {
         Ok(())
     }
 
-    /// How many are pending, the least and the greatest id, and whose they are.
+    /// The number of pending entries, the least and the greatest id, and the consumers that have them.
     pub(crate) fn summary(&self, alloc: Global) -> Result<GroupSummary, AllocError>
         ensures { IfOk result (λ summary. summary
             ≡ summary_of (record { cursor = zero_id; consumers = self.now.consumers; rows = self.now.rows })) }
@@ -508,7 +508,7 @@ impl Pending {
         reports::rows_within(alloc, &self.rows, selection)
     }
 
-    /// Those of one consumer.
+    /// The selected rows of one consumer, in a range that isn't empty.
     pub(crate) fn owned_within(
         &self,
         alloc: Global,
@@ -524,7 +524,7 @@ impl Pending {
         reports::rows_of_ids(alloc, &self.rows, &owner.ids, selection)
     }
 
-    /// Takes these ids out.
+    /// Removes these ids.
     pub(crate) fn take_all(&mut self, ids: &[Id])
         ensures { self.new ≡ record self.old { rows = change (unless_acked ids.now) self.old.rows } }
     {
@@ -533,7 +533,7 @@ impl Pending {
         }
     }
 
-    /// Takes a consumer out with its entries, and says how many it had.
+    /// Removes a consumer with its entries, and returns their number.
     pub(crate) fn remove_consumer(&mut self, name: &Bytes) -> u64
         ensures rows { self.new ≡ record {
           consumers = remove self.old.consumers name.now;
@@ -550,7 +550,7 @@ impl Pending {
         count as u64
     }
 
-    /// How many consumers there are.
+    /// The number of consumers.
     pub(crate) fn count_consumers(&self) -> usize
         ensures value { result ≡ length self.now.consumers.entries }
         ensures small { result < 2 ^ 63 }
@@ -558,7 +558,7 @@ impl Pending {
         self.owners.len()
     }
 
-    /// How many entries are pending.
+    /// The number of pending entries.
     pub(crate) fn len(&self) -> usize
         ensures value { result ≡ length self.now.rows.entries }
         ensures small { result < 2 ^ 63 }

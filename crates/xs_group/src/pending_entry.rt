@@ -11,7 +11,7 @@ use std::marker::Model;
 use xs_bytes::{Bytes, U63};
 use xs_stream::Moment;
 
-/// The count after one delivery more; the greatest one stays.
+/// The count after one more delivery; the greatest count stays.
 pub(crate) fn next_count(count: U63) -> U63
     ensures { result ≡ next_count count }
 {
@@ -21,7 +21,7 @@ pub(crate) fn next_count(count: U63) -> U63
     count
 }
 
-/// A pending entry: whose it is, when it was last delivered, and how often.
+/// A pending entry: its consumer, when it was last delivered, and how often.
 #[derive(Drop)]
 pub(crate) struct PendingEntry {
     consumer: Name,
@@ -57,7 +57,7 @@ impl PendingEntry {
         self.consumer.text()
     }
 
-    /// The name of the consumer once more.
+    /// A second handle of the consumer's name.
     pub(crate) fn share_name(&self) -> Result<Name, AllocError>
         ensures { IfOk result (λ name. name ≡ self.now.consumer) }
     {
@@ -80,7 +80,7 @@ impl PendingEntry {
         self.count = touch.count;
     }
 
-    /// For how many milliseconds the entry is idle: since its last delivery, or the time that a claim gave it.
+    /// The idle time of the entry in milliseconds: since its last delivery, or since the time that a claim gave it.
     pub(crate) fn idle(&self, now: Moment) -> u64
         ensures value { result ≡ idle_time now self.now.time }
         ensures small { result < 2 ^ 63 }
@@ -88,7 +88,7 @@ impl PendingEntry {
         now.get().saturating_sub(self.time.get())
     }
 
-    /// What a claim makes of the entry.
+    /// Changes the entry as a claim does.
     pub(crate) fn claim(&mut self, consumer: Name, terms: &ClaimTerms)
         ensures { self.new ≡ claimed_row consumer terms.now.moment terms.now.rule self.old }
     {

@@ -1,4 +1,4 @@
-//! What a read of a group is made of.
+//! The parts of a read of a group.
 ghost use Rattle.std.specs.Prelude.{◌≡◌, IfOk, take, filter};
 ghost use Rattle.std.specs.BTreeSet.{IsOrdered};
 ghost use Rattle.std.specs.List.{list_any};
@@ -15,7 +15,7 @@ use xs_bytes::List;
 use xs_maps::SmallSet;
 use xs_stream::{Entry, Id, Moment, Stream};
 
-/// The last of these ids, or the one before them.
+/// The last of these ids, or `before` if there are none.
 pub(crate) fn last_id(before: Id, ids: &[Id]) -> Id
     ensures { result ≡ last_of before ids.now }
 {
@@ -42,14 +42,14 @@ pub(crate) fn new_rows(alloc: Global, ids: &[Id]) -> Result<Vec<DeliveryRow>, Al
     Ok(rows)
 }
 
-/// The entry is in the stream.
+/// Whether the entry is in the stream.
 pub(crate) fn is_present(stream: &Stream, id: Id) -> bool
     ensures { result ≡ has_id (ids_of stream.now.entries) id }
 {
     stream.get(id).is_some()
 }
 
-/// The entry is in the stream. If it stands at this place among entries that the stream lends, it isn't looked up.
+/// Whether the entry is in the stream. If it is at this place among entries that the stream lends, it isn't looked up.
 pub(crate) fn is_present_along(stream: &Stream, lent: &[Entry<'_>], place: usize, id: Id) -> bool
     requires { AreEntriesOf stream.now.entries lent.now }
     ensures { result ≡ has_id (ids_of stream.now.entries) id }
@@ -76,7 +76,7 @@ pub(crate) fn limited_above(
     Ok(List::new(above))
 }
 
-/// The ids of a set above this one, in their order, at most this many.
+/// The ids of a set above this one, in their order, at most `most` of them.
 fn ids_above(alloc: Global, ids: &SmallSet<Id>, from: Id, most: u64) -> Result<Vec<Id>, AllocError>
     ensures ordered { IsOrdered id_cmp ids.now }
     ensures above { IfOk result (λ above. above.items ≡ take most (filter (λ x. is_below from x) ids.now.keys)) }
@@ -99,7 +99,7 @@ pub(crate) fn is_any_present(rows: &[DeliveryRow]) -> bool
     rows.iter().any(|row| row.present)
 }
 
-/// The time and the count that a row gets by a delivery at a moment, or gets back.
+/// The time and the count that a row gets by a delivery at a moment, or gets back if that is None.
 pub(crate) fn touch_set(now: &Option<Moment>, row: &DeliveryRow) -> Option<Touch>
     ensures { result ≡ touch_set now.now row.now }
 {

@@ -1,4 +1,4 @@
-//! Reports of what is pending, and with whom (Redis, XPENDING, XINFO CONSUMERS).
+//! Reports of what is pending with which consumer (Redis, XPENDING, XINFO CONSUMERS).
 ghost use Rattle.std.specs.Prelude.{IfOk, List, ℕ, None, Some, false, ◌≡◌};
 ghost use Rattle.std.specs.BTreeSet.{contains};
 ghost use Rattle.xs_group.specs.GroupState.{RowState};
@@ -22,7 +22,7 @@ use xs_stream::{Id, Moment, Range};
 pub struct OwnerCount {
     /// The name of the consumer.
     pub consumer: Bytes,
-    /// How many entries are pending with it.
+    /// The number of its pending entries.
     pub count: u64,
 }
 
@@ -31,18 +31,18 @@ pub struct OwnerCount {
 pub struct ConsumerReport {
     /// Its name.
     pub consumer: Bytes,
-    /// How many entries are pending with it.
+    /// The number of its pending entries.
     pub pending: U63,
-    /// When it was made, or last was given or claimed something.
+    /// The moment when it was created, or was last given or claimed something.
     pub seen: Moment,
-    /// How many milliseconds ago that was.
+    /// The milliseconds since that moment.
     pub idle: U63,
 }
 
-/// The short form: how many entries are pending, the least and the greatest of their ids, and whose they are.
+/// The short form: the number of pending entries, the least and the greatest of their ids, and their consumers.
 #[derive(Debug, Drop)]
 pub struct GroupSummary {
-    /// How many entries are pending.
+    /// The number of pending entries.
     pub total: U63,
     /// The least of their ids.
     pub least: Option<Id>,
@@ -61,22 +61,22 @@ pub struct PendingRow {
     pub consumer: Bytes,
     /// The moment of its last delivery, or the one that a claim gave it.
     pub time: Moment,
-    /// For how many milliseconds it is idle: since that moment.
+    /// Its idle time in milliseconds: since that moment.
     pub idle: U63,
-    /// How often it was delivered.
+    /// The number of its deliveries.
     pub count: U63,
 }
 
-/// Which pending entries the long form tells.
+/// Which pending entries the long form reports.
 #[derive(Drop)]
 pub(crate) struct Selection {
     /// The range of their ids.
     pub(crate) range: Range,
-    /// The idle time in milliseconds from which an entry is told.
+    /// The least idle time in milliseconds of an entry that is reported.
     pub(crate) min_idle: u64,
-    /// The moment that idle times are counted to.
+    /// The moment for which idle times are counted.
     pub(crate) moment: Moment,
-    /// How many entries at most.
+    /// The most entries.
     pub(crate) limit: u64,
 }
 
@@ -100,7 +100,7 @@ pub(crate) fn greatest(rows: &IdIndex) -> Option<Id>
     }
 }
 
-/// The consumers that have rows, with how many they have. The rows are those that this index agrees with.
+/// The consumers that have rows, with the number of their rows. The rows are those that this index agrees with.
 pub(crate) fn owner_counts(
     alloc: Global,
     owners: &ConsumerIndex,
@@ -147,7 +147,7 @@ pub(crate) fn consumers_of(
     Ok(found)
 }
 
-/// A row as it is told.
+/// The report of a row.
 fn told(alloc: Global, now: Moment, id: Id, entry: &PendingEntry) -> Result<PendingRow, AllocError>
     ensures { IfOk result (λ row. row ≡ pending_row now (id, entry.now)) }
 {
@@ -162,7 +162,7 @@ fn told(alloc: Global, now: Moment, id: Id, entry: &PendingEntry) -> Result<Pend
     })
 }
 
-/// The room for rows that is taken at once, where so many are asked for.
+/// The most rows for which memory is taken at the start.
 const FIRST_ROOM: u64 = 16;
 
 /// The selected rows, in a range that isn't empty.

@@ -1,11 +1,11 @@
--- What readers and writers tell of their bytes: those that are known, and those that have passed through them.
+-- What contracts see of the bytes of readers and writers: those that are known, and those that have passed.
 use Rattle.std.specs.Prelude.{◌≡◌, ℕ, ◌<◌, ◌++◌, List, [], length, take, Option, Result, MatchResult}
 use Rattle.std.specs.Io.KnownBytes as std
 
 pub record Passing : Type 0 where
-  -- what is left of a reader, or what a writer holds, where it tells that
+  -- the bytes that are left in a reader, or that a writer holds, if they are known
   pub known : Option (List ℕ)
-  -- what it has given, or taken, since it was made
+  -- the bytes that were given or taken since it was made
   pub passed : List ℕ
 
 -- what is known of the bytes of a reader
@@ -32,11 +32,11 @@ Keeps old new = std.Keeps old.known new.known × (new.passed ≡ old.passed)
 abbrev pub IsAtEnd : Passing → Type 0
 IsAtEnd passing = std.IsAtEnd passing.known
 
--- a read gives the front of what it was lent, and nothing only at the end or where there is no room
+-- a read gives the front of the known bytes, and nothing only at the end or if there is no room
 abbrev pub ReadConsumes : {E : Type 0} → Passing → Passing → Result ℕ E → List ℕ → Type 0
 ReadConsumes old new result into =
     MatchResult result (λ n. Consumes old new (take n into) × (n ≡ 0 → 0 < length into → IsAtEnd new)) (λ _. Keeps old new)
 
--- a write takes the front of what it was lent
+-- a write takes the front of the slice
 abbrev pub WriteAppends : {E : Type 0} → Passing → Passing → Result ℕ E → List ℕ → Type 0
 WriteAppends old new result from = MatchResult result (λ n. Appends old new (take n from)) (λ _. Keeps old new)

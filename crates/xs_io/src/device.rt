@@ -1,5 +1,5 @@
-//! Readers and writers, and what contracts see of them: the bytes that have passed, those that are known, how many calls
-//! they have answered, whether they have failed, and whether the end was met.
+//! Readers and writers, and what contracts see of them: the bytes that have passed, the bytes that are known, the
+//! number of calls that have returned, whether one has failed, and whether the end was reached.
 ghost use Rattle.std.specs.Prelude.{◌≡◌, ℕ, ◌+◌, ◌≤◌, Bool, false, ◌||◌, List, Option, IfOk, length, is_err};
 ghost use Rattle.xs_io.specs.Passing.{Passing, at_first, ReadConsumes, WriteAppends};
 ghost use Rattle.xs_io.specs.Device.{counter_at, is_end, is_failure};
@@ -7,25 +7,25 @@ ghost use Rattle.xs_io.specs.Device.{counter_at, is_end, is_failure};
 use std::io::{Read, Write};
 use xs_trace::Trace;
 
-/// A read or a write didn't work. It says no more.
+/// A read or a write failed. It carries no cause.
 #[derive(Clone, Copy, Debug, PartialEq, Eq)]
 pub struct Failed;
 
 /// A reader of bytes.
 pub trait Source {
-    /// The bytes that it has given, and those that are left, where it tells them.
+    /// The bytes that it has given, and those that are left, if they are known.
     ghost rest: { Self → Passing };
 
-    /// How many calls it has answered. The count stops at the greatest 64-bit number.
+    /// The number of calls that have returned. The count stops at the greatest 64-bit number.
     ghost calls: { Self → ℕ };
 
-    /// It has answered an error.
+    /// A call has returned an error.
     ghost broken: { Self → Bool };
 
-    /// Its end was met: it gave no byte where there was room.
+    /// Its end was reached: it gave no byte though there was room.
     ghost ended: { Self → Bool };
 
-    /// Reads some bytes into the front of a slice, and says how many.
+    /// Reads some bytes into the front of a slice, and returns their number.
     fn read(&mut self, into: &mut [u8]) -> Result<usize, Failed>
         ensures bound { IfOk result (λ n. n ≤ length into.new) }
         ensures bytes { ReadConsumes (rest self.old) (rest self.new) result into.new }
@@ -36,16 +36,16 @@ pub trait Source {
 
 /// A writer of bytes.
 pub trait Sink {
-    /// The bytes that it has taken, and those that it holds, where it tells them.
+    /// The bytes that it has taken, and those that it holds, if they are known.
     ghost held: { Self → Passing };
 
-    /// How many calls it has answered. The count stops at the greatest 64-bit number.
+    /// The number of calls that have returned. The count stops at the greatest 64-bit number.
     ghost calls: { Self → ℕ };
 
-    /// It has answered an error, or has taken none of some bytes.
+    /// A call has returned an error, or has taken no byte of a slice that isn't empty.
     ghost broken: { Self → Bool };
 
-    /// Takes some bytes from the front of a slice, and says how many.
+    /// Takes some bytes from the front of a slice, and returns their number.
     fn write(&mut self, from: &[u8]) -> Result<usize, Failed>
         ensures bound { IfOk result (λ n. n ≤ length from.now) }
         ensures bytes { WriteAppends (held self.old) (held self.new) result from.now }
@@ -133,7 +133,7 @@ impl<W: Write + Drop> ToWrite<W> {
         }
     }
 
-    /// Gives the writer back.
+    /// Returns the writer.
     pub fn into_inner(self) -> W
         ensures { W.contents result ≡ (⟦<ToWrite<W> as Sink>⟧.held self).known }
     {

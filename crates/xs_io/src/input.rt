@@ -14,7 +14,7 @@ mod tests;
 /// The most bytes of one read.
 const READ_BYTES: usize = 65_536;
 
-/// How many bytes of memory a buffer keeps that many bytes made large.
+/// How many bytes of memory a buffer keeps after it has grown.
 const KEPT: usize = 262_144;
 
 /// The bytes that were read and aren't used yet, in the buffer that they were read into. A contract sees them as a
@@ -38,7 +38,7 @@ impl Model for Input {
 }
 
 impl Input {
-    /// Nothing. It takes no memory.
+    /// An empty buffer. It takes no memory.
     pub fn new(alloc: Global) -> Self
         ensures { result ≡ [] }
     {
@@ -49,7 +49,7 @@ impl Input {
         }
     }
 
-    /// Nothing, with memory for so many bytes.
+    /// An empty buffer, with memory for `capacity` bytes.
     pub fn with_capacity(alloc: Global, capacity: usize) -> Result<Self, AllocError>
         ensures { IfOk result (λ input. input ≡ []) }
     {
@@ -67,7 +67,7 @@ impl Input {
         &self.bytes[self.start..self.end]
     }
 
-    /// Uses up the first bytes.
+    /// Removes the first `count` bytes.
     pub fn consume(&mut self, count: usize)
         requires { count ≤ length self.old }
         ensures { self.new ≡ drop count self.old }
@@ -75,7 +75,7 @@ impl Input {
         self.start += count;
     }
 
-    /// Drops all bytes. The memory is kept, but for what many bytes took.
+    /// Removes all bytes. The memory is kept, except what a large content needed.
     pub fn clear(&mut self)
         ensures { self.new ≡ [] }
     {
@@ -85,7 +85,7 @@ impl Input {
         self.bytes.shrink_to(KEPT);
     }
 
-    /// Moves the bytes to the front of the buffer if there is no room for a piece behind them. Memory that isn't needed
+    /// Moves the bytes to the front of the buffer if there is no room for a read behind them. Memory that isn't needed
     /// any more is given back.
     fn compact(&mut self)
         ensures { self.new ≡ self.old }
@@ -116,7 +116,7 @@ impl Input {
 impl Fill for Input {
     ghost with_bytes = { λ input bytes. input ++ bytes };
 
-    /// Reads bytes into the buffer. None is copied but to make room.
+    /// Reads bytes into the buffer. Bytes are copied only to make room.
     fn fill<R: Source>(&mut self, reader: &mut R) -> Result<usize, FillFault> {
         self.compact();
         let Ok(()) = make_room(&mut self.bytes, self.end) else {
@@ -130,7 +130,7 @@ impl Fill for Input {
     }
 }
 
-/// Copies so many bytes behind an index to the front, where they don't overlap.
+/// Copies `count` bytes from index `start` to the front, which they don't overlap.
 fn copy_to_front(bytes: &mut Vec<u8>, start: usize, count: usize)
     requires apart { count ≤ start }
     requires within { start + count ≤ length bytes.old.items }
@@ -142,7 +142,7 @@ fn copy_to_front(bytes: &mut Vec<u8>, start: usize, count: usize)
     room.copy_from_slice(&behind[..count]);
 }
 
-/// Makes room for a piece behind an index.
+/// Makes room for a read behind an index.
 fn make_room(bytes: &mut Vec<u8>, end: usize) -> Result<(), AllocError>
     requires { end ≤ length bytes.old.items }
     ensures room { OnOk result (end + 65536 ≤ length bytes.new.items) }
@@ -155,7 +155,7 @@ fn make_room(bytes: &mut Vec<u8>, end: usize) -> Result<(), AllocError>
     bytes.resize(end + READ_BYTES, 0)
 }
 
-/// Reads a piece to behind an index, and says how many bytes it has.
+/// Reads to behind an index, and returns the number of bytes.
 fn read_behind<R: Source>(bytes: &mut Vec<u8>, end: usize, reader: &mut R) -> Result<usize, Failed>
     requires { end + 65536 ≤ length bytes.old.items }
     ensures bound { IfOk result (λ n. n ≤ 65536) }

@@ -4,7 +4,7 @@ ghost use Rattle.xs_io.specs.Passing.{Appends};
 
 use crate::device::Sink;
 
-/// Writes bytes until all are taken, or the writer fails, and says how many were taken.
+/// Writes bytes until all are taken or the writer fails, and returns how many were taken.
 pub fn write_all<W: Sink>(writer: &mut W, bytes: &[u8]) -> Result<usize, usize>
     ensures ok { IfOk result (λ n. (n ≡ length bytes.now) × Appends (W.held writer.old) (W.held writer.new) bytes.now) }
     ensures err { IfErr result (λ n. (n < length bytes.now)

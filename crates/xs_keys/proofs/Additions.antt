@@ -1,4 +1,4 @@
--- Additions to a key that is there, and to one that isn't.
+-- Additions to a key that exists, and to one that doesn't.
 use Rattle.std.proofs.Common.{◌≡◌, ℕ, true, false, Some, Result, Ok, Err, is_ok, refl}
 use Rattle.std.specs.declared.alloc.AllocError.{AllocError}
 use Rattle.std.proofs.lemmas.Bool.{false≢true}
@@ -14,7 +14,7 @@ no_error : (r : Result Id AddError) → is_ok r ≡ true → is_error (assigned_
 no_error (Ok id) e = refl
 no_error (Err refusal) e = absurd (false≢true e)
 
--- an addition to the stream of a key that is there is an attempt
+-- an addition to the stream of a key that exists is an attempt
 pub adds_step : (content : Content) (now : ℕ) (add : AddCommand) (result : Result Reply AllocError) (key : KeyState) (new : StreamState) → get content add.key ≡ Some key
     → Adds key.stream now add result new → Attempt content now (Add add) result (insert content add.key (record { stream = new; groups = key.groups }))
 adds_step content now add (Ok answer) key new found done = record { answer_is = rw found done.0; content_is = rw (found, ← done.1) refl }

@@ -8,7 +8,7 @@ use Rattle.xs_resp.specs.ReplyItems.{tokens_of}
 use Rattle.xs_keys.specs.Terms.{Reply}
 use Rattle.xs_keys.specs.ReplyParts.{array}
 
--- some more behind those so far
+-- some more after those so far
 pub appended : (before so_far old new more : List Token) → old ≡ before ++ so_far → new ≡ old ++ more → new ≡ before ++ (so_far ++ more)
 appended before so_far old new more is e = e ∙ ap (λ o. o ++ more) is ∙ append_assoc before so_far more
 
@@ -17,7 +17,7 @@ pub appended-last : {A E : Type 0} (result : Result A E) (before so_far old new 
 appended-last (Ok x) before so_far old new more is e = appended before so_far old new more is e
 appended-last (Err x) before so_far old new more is e = e
 
--- replies behind those so far
+-- replies after those so far
 pub parts-appended : (before old new : List Token) (xs ys : List Reply) → old ≡ before ++ flat_map tokens_of xs → new ≡ old ++ flat_map tokens_of ys → new ≡ before ++ flat_map tokens_of (xs ++ ys)
 parts-appended before old new xs ys is e =
     appended before (flat_map tokens_of xs) old new (flat_map tokens_of ys) is e ∙ ap (λ t. before ++ t) (sym (flat_map-append tokens_of xs ys))
@@ -28,7 +28,7 @@ pub parts-appended-last : {A E : Type 0} (result : Result A E) (before old new :
 parts-appended-last (Ok x) before old new xs ys is e = parts-appended before old new xs ys is e
 parts-appended-last (Err x) before old new xs ys is e = e
 
--- an array as the last of them: how many items it has, and then these
+-- an array as the last of them: the number of its items, and then these
 pub array-last : {A E X : Type 0} (result : Result A E) (f : X → Reply) (xs : List X) (count : ℕ) (before so_far old more new : List Token) → count ≡ length xs → old ≡ before ++ so_far
     → more ≡ old ++ (Array count ∷ []) → OnOk result (new ≡ more ++ flat_map tokens_of (map f xs)) → OnOk result (new ≡ before ++ (so_far ++ (tokens_of (array (map f xs)) ++ [])))
 array-last (Ok x) f xs count before so_far old more new n is e h =

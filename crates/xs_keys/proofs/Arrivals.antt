@@ -1,4 +1,4 @@
--- Entries come by additions alone, and groups by XGROUP CREATE.
+-- Entries come only by additions, and groups only by XGROUP CREATE.
 use Rattle.std.proofs.Common.{◌≡◌, ◌⊎◌, inl, inr, ℕ, Bool, true, false, cond, ◌&&◌, List, [], ◌∷◌, Option, Some, None}
 use Rattle.std.proofs.Common.{is_some, sym, ap, subst, ◌∙◌, refl}
 use Rattle.std.proofs.lemmas.Bool.{false≢true}
@@ -65,7 +65,7 @@ entries-added earlier e = λ key. added-stays e.0 e.1 key (key_life earlier key)
 
 -- ---- groups
 
--- no ask makes a group
+-- no ask creates a group
 asked-none : (now : ℕ) (present : List Id) (ask : GroupAsk) (t : Bool) → cond t (life_after_ask now present ask None) None ≡ None
 asked-none now present ask true = refl
 asked-none now present ask false = refl

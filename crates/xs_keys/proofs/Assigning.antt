@@ -1,4 +1,4 @@
--- What a claim takes is assigned to its consumer, and nothing else changes hands.
+-- What a claim takes is assigned to its consumer, and no other entry gets another consumer.
 use Rattle.std.proofs.Common.{◌≡◌, ℕ, true, false, List, ◌∷◌, Option, Some, None, option_and_then, is_some, sym, ap}
 use Rattle.std.proofs.Common.{◌∙◌, refl}
 use Rattle.std.proofs.lemmas.Bool.{false≢true}
@@ -11,7 +11,7 @@ use Rattle.xs_keys.specs.GroupEvent.{GroupEvent, claim_of_event, pending_row_at,
 use Rattle.xs_keys.specs.RepliesTell.{IsAssigned}
 use Rattle.xs_keys.proofs.Owners.{claimed-over, owner-row, row-found, of_row}
 
--- what becomes of the owner of a row by a claim
+-- the owner of a row after a claim
 taken-row : (consumer : List ℕ) (now : ℕ) (rule : ClaimRule) (c : Claim) (x : Id) (r : Option RowState) → has_id c.take x ≡ true → has_id c.removed x ≡ false → is_some r ≡ true
     → of_row (option_and_then (row_after_claim consumer now rule c x) r) ≡ Some consumer
 taken-row consumer now rule c x None t f some = absurd (false≢true some)

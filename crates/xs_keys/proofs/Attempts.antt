@@ -1,4 +1,4 @@
--- What an attempt comes to, by what is known of its result.
+-- The result of an attempt, by what is known of it.
 use Rattle.std.proofs.Common.{ℕ, Result, Ok, Err, IfOk, OnOk, OnErr}
 use Rattle.std.specs.declared.alloc.AllocError.{AllocError}
 use Rattle.xs_keys.specs.Terms.{Reply, Error, Memory, Command}

@@ -41,7 +41,7 @@ use Rattle.xs_keys.proofs.TimesOfRows.{is-last-touched}
 
 -- ---- the ids that a claim looks at
 
--- those that an ask looks at, over the rows it meets
+-- the ids that an ask looks at, among the rows that it meets
 abbrev looked_at : GroupAsk → ℕ → List Id → List (Id × RowState) → List Id
 looked_at (claim consumer rule ids) now present all = without_repeats ids
 looked_at (auto_claim consumer rule from limit) now present all = scanned_part (is_hit all present now rule) limit (from_start from all)
@@ -51,7 +51,7 @@ looked_at _ now present all = []
 abbrev rule_for : GroupAsk → ClaimRule
 rule_for ask = option_map_or (λ rule. rule) (rule_of ask) (record { min_idle = 0; when = claim_time.Now; retry = None; just_id = false })
 
--- what is claimed is claimed among those
+-- what is claimed is among those
 looks : (ask : GroupAsk) (now : ℕ) (present : List Id) (all : List (Id × RowState))
     → (claim_of_ask ask now present all ≡ claim_among all present now (rule_for ask) (looked_at ask now present all)) × ((rule_for ask).min_idle ≡ least_idle ask)
 looks (read_new consumer limit noack) now present all = (refl, refl)
@@ -72,7 +72,7 @@ without_repeats-has (y ∷ ys) x = by (is_same_id x y) refl (without_repeats-has
 
 -- ---- a scan
 
--- whether one of two is so
+-- whether one of two is true
 passes-or : (test : List Id → Bool) (other : List Id) (all : List (List Id)) → (test (first_where test other all) ≡ true) ⊎ (first_where test other all ≡ other)
 passes-or test other [] = inr refl
 passes-or test other (ids ∷ more) = by (test ids) refl (passes-or test other more) where
@@ -107,7 +107,7 @@ few-after hit limit hits seen (x ∷ xs) few =
         step true = let room : hits + 1 ≤ limit = grind (arith, nat_tests, e) in omega (arith, one room)
         step false = let room : hits + 0 ≤ limit = omega (arith, few) in omega (arith, none room)
 
--- what is both taken and removed is nothing, so both together are hits
+-- no id is both taken and removed, so both together are hits
 hits-many : (r t : Id → Bool) → ((x : Id) → r x ≡ true → t x ≡ true → ⊥) → (xs : List Id) → length (filter t xs) + length (filter r xs) ≤ length (filter (λ x. r x || t x) xs)
 hits-many r t apart [] = omega arith
 hits-many r t apart (x ∷ xs) = by (r x) refl (t x) refl (hits-many r t apart xs) where
@@ -156,14 +156,14 @@ module _ (all : List (Id × RowState)) (are : AreRows all) (now : ℕ) (present 
   part-from : (x : Id) → has_id part x ≡ true → has_id (from_start from all) x ≡ true
   part-from x h = ap (λ ids. has_id ids x) begins.1 ∙ has_id-append part begins.0 x ∙ or_left (has_id part x) (has_id begins.0 x) h
 
-  -- it comes to what it scans
+  -- it reaches what it scans
   part-come : (x : Id) → has_id part x ≡ true → is_scanned this all x ≡ true
   unfolding this
   part-come x h = and_from (not (is_below x from)) (passes (scan_end_of_ask (auto_claim consumer rule from limit) now present all) x)
       (first_of (not (is_below x from)) (has_id (map (λ e. e.0) all) x) (sym (has_id-where (λ y. not (is_below y from)) (map (λ e. e.0) all) x) ∙ part-from x h))
       (ap (λ c. passes c x) cursor-is ∙ before-part part begins.0 ascend x h)
 
-  -- and scans the rows that it comes to
+  -- and scans the rows that it reaches
   come-part : (x : Id) → has_id (map (λ e. e.0) all) x ≡ true → is_scanned this all x ≡ true → has_id part x ≡ true
   unfolding this
   come-part x h comes = part-before part begins.0 ascend not_zero x
@@ -198,7 +198,7 @@ module _ (all : List (Id × RowState)) (are : AreRows all) (now : ℕ) (present 
 
 -- ---- every ask
 
--- an ask looks at the rows that it is asked for
+-- an ask looks at the rows that it asks for
 looked-asked : (ask : GroupAsk) (now : ℕ) (present : List Id) (all : List (Id × RowState)) → AreRows all → (x : Id) → has_id (looked_at ask now present all) x ≡ true
     → is_asked_for (record { now = now; present = present; ask = ask }) all x ≡ true
 unfolding this hit part
@@ -314,7 +314,7 @@ module _ (start : Id) (past : List GroupEvent) (asc : PresentAscends past) (even
     by None e = absurd (false≢true e)
     by (Some row) e = refl
 
-  -- what may be taken is idle by its row
+  -- an entry that may be taken is idle by its row
   idle-by-row : MayBeTaken start past event x → is_taken met event.present event.now asked_rule x ≡ true
   unfolding met asked_rule
   idle-by-row may = by (row_at (rows start past) x) refl where
@@ -404,7 +404,7 @@ claims-idle start events asc = λ later event earlier e. in-turn start earlier (
 
 -- ---- reads
 
--- where all above a cursor are delivered, none is left above it
+-- if all above a cursor are delivered, none is left above it
 none-left : (a : Id) (present : List Id) (x : Id) → has_id present x ≡ true → is_below (greatest a (filter (λ y. is_below a y) present)) x ≡ false
 none-left a present x h = by (is_below a x) refl where
   above : List Id

@@ -1,4 +1,4 @@
--- The map of entries as the code keeps it, and the map by names that it is seen as.
+-- The map of entries as the code has it, and the map by names as which contracts see it.
 use Rattle.std.proofs.Common.{◌≡◌, ℕ, true, cond, List, [], ◌∷◌, Option, Some, None, is_some, inl, inr, sym, ap, ◌∙◌}
 use Rattle.std.proofs.Common.{refl, BTreeMap, MutBor, ◌+◌, length}
 use Rattle.std.specs.Option.{ghost_name_of, option_copied_mut}
@@ -40,7 +40,7 @@ module _ {X : Type 0} where
   pub past-entries : (m : BTreeMap (List ℕ) X) (name : List ℕ) → IsOrdered (slice_cmp nat_cmp) m → is_past_names name (from_entries m.entries) ≡ list_all (λ e. is_name_before e.0 name) m.entries
   past-entries m name ordered = ap (λ (es : List (List ℕ × X)). list_all (λ e. is_name_before e.0 name) es) (entries-entries m ordered)
 
--- taking a name out leaves one entry less if it is there
+-- removing a name leaves one entry less if it was there
 pub length-remove : {X : Type 0} (m : NameMap X) (name : List ℕ) → cond (has_key m name) 1 0 + length (remove m name).entries ≡ length m.entries
 unfolding get remove
 length-remove m name = length_without (slice_cmp nat_cmp) nat_list_cmp_total name m.entries m.sorted
@@ -63,7 +63,7 @@ module _ {X : Type 0} where
       get-entries n q ∙ u.0 q ∙ ap (λ b. cond b None (tree.get (slice_cmp nat_cmp) m q)) (turned name q)
       ∙ ap (cond (is_same_name q name) None) (sym (get-entries m q)) ∙ sym (get-remove (from_entries m.entries) name q))
 
--- two ways to say what a lender ends as, which agree where a value is lent and where none is
+-- two definitions of the final value of a lender, which agree if a value is lent and if none is
 pub same-loan : {D E : Type 0} (r : Option (MutBor E)) (lent : Option E) (F G : E → D) (v u : D) → option_copied_mut r ≡ lent
     → (is_some lent ≡ true → (w : E) → F w ≡ G w) → v ≡ u → read_of (ghost_name_of r) F v ≡ read_of (ghost_name_of r) G u
 same-loan None lent F G v u e some none = ap inr none

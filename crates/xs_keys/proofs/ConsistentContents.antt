@@ -47,7 +47,7 @@ ascends-among row_of (x ∷ xs) h = by (row_of x) (ascends-among row_of xs h.1) 
 
 -- ---- each row's consumer is one of the group's
 
--- what was a consumer is one still, unless it is taken out
+-- a consumer stays one, unless it is removed
 still : (drops adds_consumer before : Bool) → drops ≡ false → before ≡ true → cond drops false (cond adds_consumer true before) ≡ true
 still drops true before d b = rw d refl
 still drops false before d b = rw d b

@@ -20,7 +20,7 @@ module _ (content : Content) (now : ℕ) (name group_name consumer : List ℕ) (
     content_is = rw (found, has) (ap (λ (g : GroupState). insert content name (with_group key group_name g)) changed);
   }
 
-  -- so is one that is refused
+  -- and a creation that is refused is an attempt
   pub refuses-consumer : (error : AllocError) → new ≡ was → Attempt content now (ConsumerCreate name group_name consumer) (Err error) (insert content name (with_group key group_name new))
   refuses-consumer error same = record {
     takes = refl;

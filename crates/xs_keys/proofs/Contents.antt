@@ -1,4 +1,4 @@
--- The content that a history leaves: the empty one, one event more, and that there is one.
+-- The content of a history: the empty one, one more event, and that there is only one.
 use Rattle.std.proofs.Common.{◌≡◌, ℕ, Bool, true, false, cond, ◌||◌, ◌&&◌, List, [], ◌∷◌, Option, Some, None, is_some}
 use Rattle.std.proofs.Common.{sym, ap, ◌∙◌, refl, subst}
 use Rattle.std.proofs.lemmas.Bool.{false≢true}
@@ -55,7 +55,7 @@ holds-changed c name change (Some key) (Some changes) lives q e h same = rw (get
 holds-changed c name change None (Some changes) lives q e h same = absurd h
 holds-changed c name change (Some key) None lives q e h same = absurd h
 
--- another key stays as it is
+-- another key is unchanged
 changed-other : (c : Content) (name : List ℕ) (change : StreamEvent) (key : Option KeyState) (q : List ℕ) → is_same_name q name ≡ false → get (after_stream_event c name change key) q ≡ get c q
 changed-other c name change None q other = refl
 changed-other c name change (Some key) q other = rw (get-insert c name (key_after change key) q, other) refl
@@ -92,7 +92,7 @@ no_ask : (life : Option GroupLife) (now : ℕ) (present : List Id) (ask : GroupA
 no_ask None now present ask h = tt
 no_ask (Some life) now present ask h = absurd h
 
--- where there is no such group, no group is changed
+-- if there is no such group, no group is changed
 unasked : (groups : NameMap GroupState) (lives : List ℕ → Option GroupLife) (group : List ℕ) (now : ℕ) (present : List Id) (ask : GroupAsk) → GroupsHold groups lives → get groups group ≡ None
     → GroupsHold groups (λ g. cond (is_same_name g group) (life_after_ask now present ask (lives g)) (lives g))
 unasked groups lives group now present ask h none = λ g. by g (is_same_name g group) refl where
@@ -147,7 +147,7 @@ asked-other c now name group ask (Some key) q other = by (get key.groups group) 
   by None = refl
   by (Some s) = rw (get-insert c name (with_group key group (group_after now (ids_of key.stream.entries) ask s)) q, other) refl
 
--- an ask of a group of one key leaves the others
+-- an ask of a group of one key leaves the others unchanged
 pub asked-elsewhere : (c : Content) (now : ℕ) (name group : List ℕ) (ask : GroupAsk) (q : List ℕ) → is_same_name q name ≡ false → get (after_ask c now name group ask) q ≡ get c q
 asked-elsewhere c now name group ask q other = asked-other c now name group ask (get c name) q other
 
@@ -217,7 +217,7 @@ begins groups lives create stream start h none opens = λ g. subst (λ x. GroupH
       subst (GroupHolds (Some (new_group start))) (sym (ap (λ l. option_or l (new_life create stream)) gone ∙ opens)) (group-new start)
   by g false e = h g
 
--- a group that is there already stays
+-- a group that exists already stays
 stays : (groups : NameMap GroupState) (lives : List ℕ → Option GroupLife) (create : GroupCreateCommand) (stream : Option (List StreamEvent)) (s : GroupState) → GroupsHold groups lives → get groups create.group ≡ Some s
     → GroupsHold groups (λ g. cond (is_same_name g create.group) (option_or (lives g) (new_life create stream)) (lives g))
 stays groups lives create stream s h is = λ g. by g (is_same_name g create.group) refl where
@@ -306,7 +306,7 @@ module _ (c : Content) (past : History) (h : IsContent c past) (q : List ℕ) wh
   lives : List ℕ → Option GroupLife
   lives g = group_life past q g
 
-  -- what holds of a key holds of it under another name
+  -- what is true of a key is true of it under an equal name
   at_name : (name : List ℕ) → is_same_name q name ≡ true → KeyHolds (get c name) (key_life past q) (λ g. group_life past q g)
   at_name name same = subst (λ n. KeyHolds (get c n) (key_life past q) (λ g. group_life past q g)) (is_same_name-eq q name same) (h q)
 

@@ -1,4 +1,4 @@
--- The count is the sum modulo 2^128: how it follows the sum, and that what it refuses the sum refuses.
+-- The count is the sum modulo 2^128: how it changes with the sum, and that what it refuses the sum refuses.
 use Rattle.std.proofs.Common.{◌≡◌, ℕ, ◌+◌, ◌^◌, ◌%◌, ◌<◌, ◌≤◌, arith}
 use Rattle.xs_keys.specs.KeysRoom.{IsCountOf}
 

@@ -1,4 +1,4 @@
--- The count of the keys: how it follows when a stream or a group of a key changes, and when one comes or goes.
+-- The count of the keys: how it changes if a stream or a group of a key changes, and if one is added or removed.
 use Rattle.std.proofs.Common.{◌≡◌, ℕ, ◌+◌, ◌^◌, ◌%◌, ◌<◌, List, length, Some, None, arith}
 use Rattle.xs_bytes.specs.SortedMap.{NameMap, get, insert, remove, empty}
 use Rattle.xs_stream.specs.StreamContent.{StreamInMemory}
@@ -8,7 +8,7 @@ use Rattle.xs_keys.specs.KeysRoom.{KeyInMemory, room_of_key, room_of_keys, IsCou
 use Rattle.xs_keys.proofs.NamedRooms.{room-changed, room-grown, room-fewer, room-none}
 use Rattle.xs_keys.proofs.Counted.{counted-changed}
 
--- nothing is held
+-- there are no keys
 pub counted-none : IsCountOf (room_of_keys empty) 0
 counted-none = omega (arith, room-none room_of_key)
 
@@ -20,14 +20,14 @@ module _ (keys : NameMap KeyInMemory) (held later : ℕ) (counted : IsCountOf (r
       counted-changed (room_of_keys keys) (room_of_keys (insert keys name new)) held later before after counted small changed
       (omega (arith, room, room-changed room_of_key keys name new key found))
 
-  -- a key comes
+  -- a key is added
   pub counted-new : (new : KeyInMemory) (before after : ℕ) → get keys name ≡ None → before ≡ 0 → after % 2 ^ 128 ≡ (length name + room_of_key new) % 2 ^ 128
       → (later + before) % 2 ^ 128 ≡ (held + after) % 2 ^ 128 → IsCountOf (room_of_keys (insert keys name new)) later
   counted-new new before after none nothing room changed =
       counted-changed (room_of_keys keys) (room_of_keys (insert keys name new)) held later 0 (length name + room_of_key new) counted small
       (omega (arith, nothing, room, changed)) (omega (arith, room-grown room_of_key keys name new none))
 
-  -- a key goes
+  -- a key is removed
   pub counted-gone : (key : KeyInMemory) (before after : ℕ) → get keys name ≡ Some key → after ≡ 0 → before % 2 ^ 128 ≡ (length name + room_of_key key) % 2 ^ 128
       → (later + before) % 2 ^ 128 ≡ (held + after) % 2 ^ 128 → IsCountOf (room_of_keys (remove keys name)) later
   counted-gone key before after found nothing room changed =
@@ -48,7 +48,7 @@ module _ (keys : NameMap KeyInMemory) (held later : ℕ) (counted : IsCountOf (r
         counted-key key (record { stream = key.stream; groups = insert key.groups group_name new }) (room_of_group group) (room_of_group new) found
         (omega (arith, room-changed room_of_group key.groups group_name new group there)) changed
 
-    -- a group of a key comes
+    -- a group is added to a key
     pub counted-group-new : (group_name : List ℕ) (new : GroupState) → get key.groups group_name ≡ None
         → (later + 0) % 2 ^ 128 ≡ (held + (length group_name + room_of_group new)) % 2 ^ 128
         → IsCountOf (room_of_keys (insert keys name (record { stream = key.stream; groups = insert key.groups group_name new }))) later
@@ -56,7 +56,7 @@ module _ (keys : NameMap KeyInMemory) (held later : ℕ) (counted : IsCountOf (r
         counted-key key (record { stream = key.stream; groups = insert key.groups group_name new }) 0 (length group_name + room_of_group new) found
         (omega (arith, room-grown room_of_group key.groups group_name new none)) changed
 
-    -- a group of a key goes
+    -- a group is removed from a key
     pub counted-group-gone : (group_name : List ℕ) (group : GroupState) → get key.groups group_name ≡ Some group
         → (later + (length group_name + room_of_group group)) % 2 ^ 128 ≡ (held + 0) % 2 ^ 128
         → IsCountOf (room_of_keys (insert keys name (record { stream = key.stream; groups = remove key.groups group_name }))) later

@@ -1,4 +1,4 @@
--- New deliveries of a life: they ascend, and are what was in the stream at its turn.
+-- New deliveries of a life: they ascend, and were in the stream at their turn.
 use Rattle.std.proofs.Common.{◌≡◌, Bool, true, false, not, ◌&&◌, List, [], ◌∷◌, sym, ap, ◌∙◌, refl}
 use Rattle.std.proofs.lemmas.Bool.{false≢true}
 use Rattle.xs_keys.specs.Terms.{Id, is_below, has_id, Ascends, AllAbove}
@@ -50,7 +50,7 @@ ascends-delivered start (event ∷ past) h =
     ascends-append (cursor start past) (delivered_ids start past) (new_ids_of_event event (cursor start past)) (ascends-delivered start past h.1) (up_to-delivered start past)
     (ascends-asked event.ask event.present (cursor start past) h.0) (above-after start past event)
 
--- and are past the start
+-- and are above the start
 pub past-start : (start : Id) (events : List GroupEvent) → AllAbove start (delivered_ids start events)
 past-start start [] = tt
 past-start start (event ∷ past) =
@@ -59,7 +59,7 @@ past-start start (event ∷ past) =
 
 -- ---- their turn
 
--- an id that the cursor passes at an event is delivered exactly where it is in the stream
+-- an id that the cursor passes at an event is delivered exactly if it is in the stream
 exactly-at : (ask : GroupAsk) (present : List Id) (a x : Id) → Ascends present → is_below a x ≡ true → is_below (greatest a (new_ids_of_ask ask present a)) x ≡ false
     → has_id (new_ids_of_ask ask present a) x ≡ has_id present x
 exactly-at (read_new consumer limit noack) present a x asc low high = new_ids-up_to limit present a x asc low high
@@ -80,7 +80,7 @@ had-event start (event ∷ past) x h low high = by (is_below (cursor start past)
   new : List Id
   new = new_ids_of_event event (cursor start past)
 
-  -- an id up to the cursor before isn't delivered anew
+  -- an id up to the cursor before isn't delivered again
   not_new : is_below (cursor start past) x ≡ false → has_id new x ≡ false
   not_new up = not_above (cursor start past) x new up (above-after start past event)
 

@@ -30,7 +30,7 @@ same command key ids given x none = record {
   comes_new = λ b a. absurd (false≢true (sym b ∙ a));
 }
 
--- there is no stream before and after
+-- there is no stream before or after
 nothing : (command : Command) (key : List ℕ) (given : List Id) (x : Id) → EntryStays command key [] [] given x
 nothing command key given x = record {
   unless_removed = λ b a. absurd (false≢true b);
@@ -38,7 +38,7 @@ nothing command key given x = record {
   comes_new = λ b a. absurd (false≢true a);
 }
 
--- what a change drops the command removes, and what it has to remove the change drops
+-- the command removes what a change drops, and the change drops what the command has to remove
 record Changes (command : Command) (key : List ℕ) (x : Id) (change : StreamEvent) (past : List StreamEvent) : Type 0 where
   may : removes_id change (top past) (ids_of (filter (λ e. is_present past e.0) (added_in past) ++ entries_added_by change (top past))) x ≡ true → may_remove_entry command key (ids_of (present_entries past)) x ≡ true
   must : has_to_remove command key (ids_of (present_entries past)) x ≡ true → removes_id change (top past) (ids_of (filter (λ e. is_present past e.0) (added_in past) ++ entries_added_by change (top past))) x ≡ true
@@ -54,7 +54,7 @@ changed command key x change past does = record {
   by b a false e = refl
   by b a true e = absurd (false≢true (sym b ∙ present-before change past x (added-up_to past x e) a))
 
--- a command that changes the stream, where it is this one
+-- a command that changes the stream, if it is this one
 changes-stream : (command : Command) (key : List ℕ) (x : Id) (change : StreamEvent) (stream : Option (List StreamEvent)) (t : Bool)
     → (t ≡ true → (past : List StreamEvent) → Changes command key x change past) → (t ≡ false → (ids : List Id) → has_to_remove command key ids x ≡ false)
     → EntryStays command key (present_in stream) (present_in (cond t (option_map (λ changes. change ∷ changes) stream) stream)) (ids_of (option_map_or added_in stream [])) x
@@ -62,7 +62,7 @@ changes-stream command key x change stream false does idle = same command key (p
 changes-stream command key x change None true does idle = nothing command key [] x
 changes-stream command key x change (Some past) true does idle = changed command key x change past (does refl past)
 
--- an addition may make the stream
+-- an addition that may create the stream
 adds : (command : Command) (key : List ℕ) (x : Id) (change : StreamEvent) (make : Bool) (stream : Option (List StreamEvent)) (t : Bool)
     → (t ≡ true → (past : List StreamEvent) → Changes command key x change past) → ((ids : List Id) → has_to_remove command key ids x ≡ false)
     → EntryStays command key (present_in stream) (present_in (cond t (option_map (λ changes. change ∷ changes) (life_or_new make stream)) stream)) (ids_of (option_map_or added_in stream [])) x

@@ -1,4 +1,4 @@
--- The first of some ids, at most so many.
+-- The first of some ids, up to a limit.
 use Rattle.std.proofs.Common.{◌≡◌, ◌⊎◌, inl, inr, ℕ, ◌≤◌, Bool, true, false, ◌||◌, List, [], ◌∷◌, length, take, Option}
 use Rattle.std.proofs.Common.{Some, None, zero, suc, ap, subst, refl, arith}
 use Rattle.std.proofs.lemmas.Bool.{false≢true}
@@ -58,7 +58,7 @@ limited-first limit xs asc = record {
       by (inl among) = inl among
       by (inr (full_is, above)) = inr (ap Some full_is, above)
 
--- the same of what is chosen alike
+-- the same for what is chosen in the same way
 pub first-as : (A B : Id → Type 0) (limit : Option ℕ) (ids : List Id) → ((x : Id) → A x → B x) → ((x : Id) → B x → A x) → AreFirst A limit ids → AreFirst B limit ids
 first-as A B limit ids from to first = record {
   ascend = first.ascend;

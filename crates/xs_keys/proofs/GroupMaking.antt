@@ -13,7 +13,7 @@ use Rattle.xs_keys.specs.Grouping.{Creates}
 use Rattle.xs_keys.specs.Step.{Attempt}
 use Rattle.xs_keys.proofs.NameMaps.{insert-same}
 
--- a creation in a key that is there is an attempt
+-- a creation in a key that exists is an attempt
 pub creates_step : (content : Content) (now : ℕ) (create : GroupCreateCommand) (result : Result Reply AllocError) (key : KeyState) (groups : NameMap GroupState) → get content create.key ≡ Some key
     → Creates create key.stream.top key.groups result groups
     → Attempt content now (GroupCreate create) result (insert content create.key (record { stream = key.stream; groups = groups }))
@@ -35,7 +35,7 @@ creates_step content now create (Err error) key groups found refused = record {
 no-group : (name : List ℕ) → has_key {X = GroupState} {R = slice_cmp nat_cmp} empty name ≡ false
 no-group name = ap is_some (get-empty {X = GroupState} (slice_cmp nat_cmp) name)
 
--- so is one that makes the key
+-- and one that creates the key is a step
 pub makes_step : (content : Content) (now : ℕ) (create : GroupCreateCommand) → create.make ≡ true → get content create.key ≡ None
     → Attempt content now (GroupCreate create) (Ok (Simple Okay)) (insert content create.key (with_group new_key create.group (new_group (starting_id create.start new_key.stream.top))))
 makes_step content now create make missing = record {
@@ -43,7 +43,7 @@ makes_step content now create make missing = record {
   content_is = rw (missing, make, no-group create.group) refl;
 }
 
--- or finds no memory for it
+-- or one for which memory runs out
 pub refused_step : (content : Content) (now : ℕ) (create : GroupCreateCommand) (error : AllocError) → create.make ≡ true → get content create.key ≡ None
     → Attempt content now (GroupCreate create) (Err error) content
 refused_step content now create error make missing = record {

@@ -1,4 +1,4 @@
--- The rows of a group as a list: what changes each, and what is put in at its end.
+-- The rows of a group as a list: how each changes, and rows that are added at its end.
 use Rattle.std.proofs.Common.{◌≡◌, Bool, true, false, ◌||◌, List, [], ◌∷◌, ◌++◌, map, Option, Some, None}
 use Rattle.std.proofs.Common.{option_and_then, sym, ap, subst, ◌∙◌, refl, append_assoc}
 use Rattle.std.proofs.lemmas.List.{append-nil}
@@ -19,7 +19,7 @@ or-true false = refl
 abbrev pub row_ids : List (Id × RowState) → List Id
 row_ids es = map (λ e. e.0) es
 
--- what becomes of each row of these ids
+-- the change of each row of these ids
 pub each-among : (f : Id → RowState → Option RowState) (row_of : Id → Option RowState) (ids : List Id) → each f (rows_among row_of ids) ≡ rows_among (λ x. option_and_then (f x) (row_of x)) ids
 each-among f row_of [] = refl
 each-among f row_of (x ∷ xs) = by (row_of x) (each-among f row_of xs) where
@@ -35,12 +35,12 @@ among-append row_of (x ∷ xs) ys = by (row_of x) (among-append row_of xs ys) wh
   by None e = e
   by (Some row) e = ap (λ es. (x, row) ∷ es) e
 
--- rows that are told alike for each id up to a
+-- rows that are equal for each id up to a
 pub among-alike : (a : Id) (one other : Id → Option RowState) → ((x : Id) → is_below a x ≡ false → one x ≡ other x) → (xs : List Id) → AllUpTo a xs → rows_among one xs ≡ rows_among other xs
 among-alike a one other same [] h = refl
 among-alike a one other same (x ∷ xs) h = λ i. with_some x (same x h.0 i) (among-alike a one other same xs h.1 i)
 
--- rows that are told alike for each of these ids
+-- rows that are equal for each of these ids
 pub among-known : (all : List Id) (one other : Id → Option RowState) → ((x : Id) → has_id all x ≡ true → one x ≡ other x)
     → (xs : List Id) → ((x : Id) → has_id xs x ≡ true → has_id all x ≡ true) → rows_among one xs ≡ rows_among other xs
 among-known all one other same [] sub = refl
@@ -68,7 +68,7 @@ up_to-among a row_of (x ∷ xs) h = by (row_of x) (up_to-among a row_of xs h.1) 
   by None rest = rest
   by (Some row) rest = (h.0, rest)
 
--- ---- rows put in at the end
+-- ---- rows added at the end
 
 put-last : (es : List (Id × RowState)) (a x : Id) (row : RowState) → AllUpTo a (row_ids es) → is_below a x ≡ true → put id_cmp x row es ≡ es ++ (x, row) ∷ []
 put-last [] a x row h e = refl

@@ -1,4 +1,4 @@
--- A group by looking back, and a group event by event: they are the same.
+-- A group by looking back, and a group event by event, are the same.
 use Rattle.std.proofs.Common.{◌≡◌, ℕ, Bool, true, false, cond, List, [], ◌∷◌, ◌++◌, Option, Some, None, option_and_then}
 use Rattle.std.proofs.Common.{is_some, sym, ap, subst, ◌∙◌, refl, not, ◌&&◌, ◌||◌}
 use Rattle.std.proofs.lemmas.List.{append-nil}
@@ -39,7 +39,7 @@ cursor-step start t past = greatest-append start (delivered_ids start past) (new
 pub up_to-rows : (start : Id) (past : List GroupEvent) → AllUpTo (cursor start past) (row_ids (rows start past))
 up_to-rows start past = up_to-among (cursor start past) (λ x. pending_row_at start past x) (delivered_ids start past) (up_to-delivered start past)
 
--- an event that delivers nothing changes rows that are there
+-- an event that delivers nothing changes existing rows
 rows-changed : (start : Id) (past : List GroupEvent) (f : Id → RowState → Option RowState) (r : Rows) → r.entries ≡ rows start past
     → (change f r).entries ≡ rows_among (λ x. option_and_then (f x) (pending_row_at start past x)) (delivered_ids start past ++ [])
 unfolding change
@@ -51,7 +51,7 @@ rows-same : (start : Id) (past : List GroupEvent) (r : Rows) → r.entries ≡ r
 rows-same start past r e = e ∙ ap (rows_among (λ x. pending_row_at start past x)) (sym (append-nil (delivered_ids start past)))
 
 module _ (start : Id) (past : List GroupEvent) (consumer : List ℕ) (now : ℕ) (new : List Id) (above : AllAbove (cursor start past) new) (asc : Ascends new) where
-  -- what a delivery makes of a row
+  -- a row after a delivery
   row_after : Bool → Id → Option RowState
   row_after noack x = cond (has_id new x) (cond noack None (Some (first_row consumer now))) (pending_row_at start past x)
 
@@ -63,7 +63,7 @@ module _ (start : Id) (past : List GroupEvent) (consumer : List ℕ) (now : ℕ)
       (λ x up. ap (λ b. cond b (cond noack None (Some (first_row consumer now))) (pending_row_at start past x)) (not_above (cursor start past) x new up above))
       (delivered_ids start past) (up_to-delivered start past)
 
-  -- the new ones get one, unless with NOACK
+  -- the new ones get a row, unless with NOACK
   new-rows : (noack : Bool) → rows_among (row_after noack) new ≡ cond noack [] (each_row (first_row consumer now) new)
   unfolding row_after
   new-rows noack =
@@ -86,7 +86,7 @@ module _ (start : Id) (past : List GroupEvent) (consumer : List ℕ) (now : ℕ)
 
 -- ---- consumers
 
--- a consumer is there if it has a moment
+-- a consumer exists if it has a moment
 there-if : (deleted added given there : Bool) (seen : Option ℕ) (now : ℕ) → is_some seen ≡ there
     → is_some (cond deleted None (cond (added && (given || not there)) (Some now) seen)) ≡ cond deleted false (cond added true there)
 there-if true added given there seen now e = refl
@@ -101,7 +101,7 @@ seen-there start (t ∷ past) name =
     there-if (deletes_consumer t.ask name) (adds_consumer t.ask name) (gives t.ask t.now t.present (cursor start past) (rows start past)) (is_consumer past name) (seen_at start past name) t.now
     (seen-there start past name)
 
--- the moment of each consumer when one is put in, or given something
+-- the moment of each consumer after one is added, or given something
 put-seen : (consumers : Consumers) (consumer : List ℕ) (now : ℕ) (given : Bool) (q : List ℕ)
     → get (with_name consumers consumer now given) q ≡ cond (is_same_name q consumer && (given || not (has_name consumers q))) (Some now) (get consumers q)
 put-seen consumers consumer now given q = get-with_name consumers consumer now given q ∙ by (is_same_name q consumer) refl where
@@ -190,7 +190,7 @@ module _ (life : GroupLife) (g : GroupState) (h : IsGroupOfLife g life) (now : �
         ∙ changed_rows (row_after_claim consumer now rule (scan_of (rows life.start life.events) present now rule start limit).claim);
   }
 
--- the group after one more event is what the event makes of the group
+-- the group after one more event is the group changed by the event
 pub group-step : (life : GroupLife) (g : GroupState) → IsGroupOfLife g life → (now : ℕ) (present : List Id) → Ascends present → (ask : GroupAsk)
     → IsGroupOfLife (group_after now present ask g) (record { start = life.start; events = record { now = now; present = present; ask = ask } ∷ life.events })
 unfolding lived event

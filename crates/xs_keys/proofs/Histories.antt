@@ -1,4 +1,4 @@
--- What holds of the lives of a history: the ids in the stream ascend at each event.
+-- What is true of the lives of a history: the ids in the stream ascend at each event.
 use Rattle.std.proofs.Common.{◌≡◌, ℕ, Bool, true, false, cond, ◌&&◌, List, [], ◌∷◌, Option, Some, None, is_some, subst}
 use Rattle.std.proofs.Common.{refl}
 use Rattle.xs_keys.specs.Event.{History}
@@ -13,7 +13,7 @@ use Rattle.xs_keys.specs.GroupLife.{group_life_after, reads_of, read_group_of, g
 use Rattle.xs_keys.proofs.Streams.{ascends-present}
 use Rattle.xs_keys.proofs.Deliveries.{PresentAscends}
 
--- a life whose turns meet ids that ascend, or none
+-- a life at whose events the ids ascend, or no life
 abbrev pub MeetsAscending : Option GroupLife → Type 0
 MeetsAscending None = Unit {0}
 MeetsAscending (Some life) = PresentAscends life.events

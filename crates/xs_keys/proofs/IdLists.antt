@@ -104,7 +104,7 @@ not_among a [] x e up = refl
 not_among a (y ∷ ys) x e up =
     rw (is_same_id-symm x y, below-not_same y x (up_to-below a y x up.0 e)) (not_among a ys x e up.1)
 
--- what a test passes
+-- ids that pass a test
 pub has_id-where : (p : Id → Bool) (xs : List Id) (x : Id) → has_id (filter p xs) x ≡ (p x && has_id xs x)
 has_id-where p [] x = sym (and_right (p x) false refl)
 has_id-where p (y ∷ ys) x = by (p y) refl (is_same_id x y) refl (has_id-where p ys x) where
@@ -119,7 +119,7 @@ has_id-where p (y ∷ ys) x = by (p y) refl (is_same_id x y) refl (has_id-where 
 
 -- ---- the first of a list
 
--- an id up to the last of the first ones is among them exactly where it is in the list
+-- an id up to the last of the first ones is among them exactly if it is in the list
 pub take-up_to : (n : ℕ) (xs : List Id) (a x : Id) → AllAbove a xs → Ascends xs → is_below a x ≡ true → is_below (greatest a (take n xs)) x ≡ false → has_id (take n xs) x ≡ has_id xs x
 take-up_to zero xs a x above asc low high = absurd (false≢true (sym high ∙ low))
 take-up_to (suc n) [] a x above asc low high = refl

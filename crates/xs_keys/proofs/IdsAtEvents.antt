@@ -1,5 +1,5 @@
--- The ids in the stream at each event of a group are those that a beginning of the changes of the stream left. So what was
--- delivered was given, and no entry stays behind the cursor.
+-- The ids in the stream at each event of a group are those after a beginning of the changes of the stream. So what was
+-- delivered was added, and no entry stays below the cursor undelivered.
 use Rattle.std.proofs.Common.{◌≡◌, ℕ, Bool, true, false, cond, not, ◌&&◌, ◌||◌, List, [], ◌∷◌, ◌++◌, Option, Some, None}
 use Rattle.std.proofs.Common.{is_some, filter, take, zero, suc, sym, ap, subst, ◌∙◌, refl}
 use Rattle.std.proofs.lemmas.Bool.{false≢true, and_from, or_left, or_right}
@@ -26,7 +26,7 @@ use Rattle.xs_keys.proofs.IdLists.{has_id-append, has_id-where, not_above, not_a
 use Rattle.xs_keys.proofs.Streams.{greatest-append, greatest-up, up_to-top, adds-not_new}
 use Rattle.xs_keys.proofs.Deliveries.{PresentAscends, had-event}
 
--- ---- what a stream keeps of its past
+-- ---- what stays true of the past of a stream
 
 new_or_old : (xs ys : List Id) (x : Id) → has_id ys x ≡ false → has_id (xs ++ ys) x ≡ true → has_id xs x ≡ true
 new_or_old xs ys x none e = by (has_id xs x) (has_id ys x) none (sym (has_id-append xs ys x) ∙ e) where
@@ -34,13 +34,13 @@ new_or_old xs ys x none e = by (has_id xs x) (has_id ys x) none (sym (has_id-app
   by true b n f = refl
   by false b n f = absurd (false≢true (sym n ∙ f))
 
--- what was given stays given
+-- what was added stays added
 pub added-more : (change : StreamEvent) (past : List StreamEvent) (x : Id) → has_id (ids_of (added_in past)) x ≡ true → has_id (ids_of (added_in (change ∷ past))) x ≡ true
 added-more change past x e =
     ap (λ ids. has_id ids x) (ids_of-append (added_in past) (entries_added_by change (top past)))
     ∙ has_id-append (ids_of (added_in past)) (ids_of (entries_added_by change (top past))) x ∙ or_left _ _ e
 
--- an id up to the top isn't given anew
+-- an id up to the top isn't added again
 pub added-before : (change : StreamEvent) (past : List StreamEvent) (x : Id) → is_below (top past) x ≡ false → has_id (ids_of (added_in (change ∷ past))) x ≡ true → has_id (ids_of (added_in past)) x ≡ true
 added-before change past x up e =
     new_or_old (ids_of (added_in past)) (ids_of (entries_added_by change (top past))) x (adds-not_new change (top past) x up)
@@ -56,14 +56,14 @@ top-up change past =
 pub up_to-more : (change : StreamEvent) (past : List StreamEvent) (x : Id) → is_below (top past) x ≡ false → is_below (top (change ∷ past)) x ≡ false
 up_to-more change past x up = not_above-trans (top (change ∷ past)) (top past) x (top-up change past) up
 
--- what is live stands, and was given
+-- what is in the stream was added
 pub has_id-present : (changes : List StreamEvent) (x : Id) → has_id (ids_of (present_entries changes)) x ≡ (is_present changes x && has_id (ids_of (added_in changes)) x)
 has_id-present changes x = ap (λ ids. has_id ids x) (ids_of-filter (is_present changes) (added_in changes)) ∙ has_id-where (is_present changes) (ids_of (added_in changes)) x
 
 pub present-added : (changes : List StreamEvent) (x : Id) → has_id (ids_of (present_entries changes)) x ≡ true → has_id (ids_of (added_in changes)) x ≡ true
 present-added changes x e = second_of (is_present changes x) _ (sym (has_id-present changes x) ∙ e)
 
--- what is live and isn't new was live before
+-- what is in the stream and isn't new was in it before
 pub present-before : (change : StreamEvent) (past : List StreamEvent) (x : Id) → is_below (top past) x ≡ false → has_id (ids_of (present_entries (change ∷ past))) x ≡ true → has_id (ids_of (present_entries past)) x ≡ true
 present-before change past x up e =
     let both = sym (has_id-present (change ∷ past) x) ∙ e in
@@ -120,13 +120,13 @@ greatest-below a t x (y ∷ ys) low high up = greatest-below (cond (is_below a y
 
 -- ---- what a group sees of its stream
 
--- at each event the ids in the stream are those that a beginning of the changes left
+-- at each event the ids in the stream are those after a beginning of the changes
 abbrev pub Sees : List StreamEvent → List GroupEvent → Type 0
 Sees changes [] = Unit {0}
 Sees changes (event ∷ past) =
     (later earlier : List StreamEvent) × (changes ≡ later ++ earlier) × (event.present ≡ ids_of (present_entries earlier)) × Sees earlier past
 
--- a group that is there has a key
+-- a group that exists has a key
 abbrev pub SeesItsKey : Option (List StreamEvent) → Option GroupLife → Type 0
 SeesItsKey stream None = Unit {0}
 SeesItsKey None (Some life) = ⊥
@@ -235,7 +235,7 @@ sees-life (e ∷ past) key group =
 pub sees-of : (past : History) (key group : List ℕ) (changes : List StreamEvent) (life : GroupLife) → key_life past key ≡ Some changes → group_life past key group ≡ Some life → Sees changes life.events
 sees-of past key group changes life k g = subst (λ l. SeesItsKey (Some changes) l) g (subst (λ s. SeesItsKey s (group_life past key group)) k (sees-life past key group))
 
--- ---- what was delivered was given
+-- ---- what was delivered was added
 
 pub limited-has : (limit : Option ℕ) (xs : List Id) (x : Id) → has_id (up_to_limit limit xs) x ≡ true → has_id xs x ≡ true
 limited-has None xs x e = e
@@ -270,9 +270,9 @@ delivered-added start changes (event ∷ past) x h e =
     by false d f before =
         present-added h.1 x (ap (λ ids. has_id ids x) (sym h.3) ∙ asked-present event.ask event.present (cursor start past) x f)
 
--- ---- no entry stays behind the cursor
+-- ---- no entry stays below the cursor undelivered
 
--- what the cursor has passed was given by then
+-- what the cursor has passed was added by then
 cursor-top : (start : Id) (changes : List StreamEvent) (events : List GroupEvent) (x : Id) → Sees changes events → is_below start x ≡ true → is_below (cursor start events) x ≡ false → is_below (top changes) x ≡ false
 cursor-top start changes events x h low high = by (is_below (top changes) x) refl where
   by : (t : Bool) → is_below (top changes) x ≡ t → t ≡ false

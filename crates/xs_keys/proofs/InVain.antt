@@ -21,7 +21,7 @@ module _ (content : Content) (now : ℕ) (read : ReadGroupCommand) (one : ReadOn
   known : knows_reader_in read (get content one.key) ≡ true → has_name n.was.consumers read.consumer ≡ true
   known e = sym (rw (n.had, n.has) refl) ∙ e
 
-  -- the group stays as it was
+  -- the group is unchanged
   same-group : has_name n.was.consumers read.consumer ≡ true → left content now read one n ≡ n.was
   same-group e = rw n.none_is (rw e (ap (with_rows n.was) (same-rows read.noack n.was.rows)))
 
@@ -30,7 +30,7 @@ module _ (content : Content) (now : ℕ) (read : ReadGroupCommand) (one : ReadOn
       after-is content now read one n ∙ ap (λ g. insert content one.key (with_group n.key read.group g)) (same-group (known e))
       ∙ put_same content one.key read.group n.key n.was n.had n.has
 
--- so does a read of many keys
+-- and a read of many keys changes nothing
 pub vain-reads : (reads : List ReadOne) (content : Content) (now : ℕ) (read : ReadGroupCommand) → list_all (λ one. finds_none_in read one (get content one.key)) reads ≡ true
     → list_all (λ one. knows_reader_in read (get content one.key)) reads ≡ true → after_reads content now read reads ≡ content
 vain-reads [] content now read none known = refl

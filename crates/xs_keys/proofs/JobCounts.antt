@@ -1,4 +1,4 @@
--- The given entries by their places: what waits, what is pending with whom, and that all of them add up.
+-- The added entries by their places: what waits, what is pending with whom, and that all of them add up.
 use Rattle.std.proofs.Common.{◌≡◌, ℕ, ◌+◌, Bool, true, false, cond, ◌&&◌, List, [], ◌∷◌, filter, map, length, Option}
 use Rattle.std.proofs.Common.{Some, None, is_some, option_and_then, sym, ap, subst, ◌∙◌, refl, arith}
 use Rattle.std.proofs.lemmas.Bool.{false≢true, or_left}
@@ -27,7 +27,7 @@ use Rattle.xs_keys.proofs.Owners.{owner-row, of_row, owned-delivered}
 use Rattle.xs_keys.proofs.IdsAtEvents.{Sees, sees-of, above-has, delivered-added, present-added}
 use Rattle.xs_keys.proofs.JobPlaces.{place_by, has-one-place}
 
--- ---- lists that ascend, and have the same ids, are one
+-- ---- ascending lists with the same ids are equal
 
 -- an id is not above itself
 pub not_itself : (x : Id) (xs : List Id) → AllAbove x xs → has_id xs x ≡ false
@@ -77,7 +77,7 @@ ascends-rows start events asc =
     subst Ascends (sym (ids-among (λ x. pending_row_at start events x) (delivered_ids start events)))
     (ascends-where (λ x. is_some (pending_row_at start events x)) (delivered_ids start events) (ascends-delivered start events asc))
 
--- and those of one consumer's rows are those whose row is its own
+-- and those of one consumer's rows are those whose row is the consumer's
 pub owned-among : (name : List ℕ) (row_of : Id → Option RowState) (ids : List Id) → ids_of_consumer name (rows_among row_of ids) ≡ filter (λ x. option_map_or (λ row. is_same_name row.consumer name) (row_of x) false) ids
 owned-among name row_of [] = refl
 owned-among name row_of (x ∷ xs) = by (row_of x) (owned-among name row_of xs) where
@@ -142,7 +142,7 @@ module _ (life : GroupLife) (changes : List StreamEvent) (asc : PresentAscends l
           let given = present-added changes x there in
           λ i. is_same_place waiting (sym at i) && given i
 
-  -- ---- what is pending, where a test asks for the consumer
+  -- ---- what is pending, if a test selects by the consumer
   pending-are : (at : Place → Bool) (test : List ℕ → Bool) → ((p : Place) → at p ≡ true → (name : List ℕ) × (p ≡ pending name)) → ((name : List ℕ) → at (pending name) ≡ test name)
       → jobs_at at changes life ≡ filter (λ x. option_map_or test (owner life.start life.events x) false) (delivered_ids life.start life.events)
   pending-are at test only with =
@@ -244,9 +244,9 @@ places-add-up life changes asc sees =
     by None = refl
     by (Some row) = refl
 
--- ---- what XPENDING tells
+-- ---- what XPENDING reports
 
--- the number of rows is what it tells first
+-- the number of rows is what it reports first
 pub tells-pending : (c : Content) (past : History) (now : ℕ) (key group : List ℕ) (changes : List StreamEvent) (life : GroupLife) → IsContent c past
     → key_life past key ≡ Some changes → group_life past key group ≡ Some life → TellsPending c now key group (length (jobs_at is_pending changes life))
 tells-pending c past now key group changes life is k g =

@@ -1,4 +1,4 @@
--- What a change of the stream and what a command makes of the place of an entry.
+-- The place of an entry after a change of the stream and after a command.
 use Rattle.std.proofs.Common.{◌≡◌, ◌⊎◌, inl, inr, ℕ, ◌+◌, ◌≤◌, Bool, true, false, cond, not, ◌&&◌, ◌||◌, List, [], ◌∷◌}
 use Rattle.std.proofs.Common.{◌++◌, filter, Option, Some, None, is_some, Result, Ok, Err, is_ok, length, bytes_eq, sym}
 use Rattle.std.proofs.Common.{ap, subst, ◌∙◌, refl, arith, length-append}
@@ -61,13 +61,13 @@ use Rattle.xs_keys.proofs.JobPlaces.{was_settled, went, settled-now, pending-own
 
 -- ---- a change of the stream
 
--- what a change makes of the place of an entry that was given
+-- how a change moves an entry that was added
 data Altered (change : StreamEvent) (past : List StreamEvent) (x : Id) (here there : Place) : Type 0 where
   kept : there ≡ here → Altered change past x here there
   fell : removes_id change (top past) (ids_of (filter (λ e. is_present past e.0) (added_in past) ++ entries_added_by change (top past))) x ≡ true → here ≡ waiting → there ≡ dropped → Altered change past x here there
 
 module _ (start : Id) (events : List GroupEvent) (change : StreamEvent) (past : List StreamEvent) (x : Id) (given : has_id (ids_of (added_in past)) x ≡ true) where
-  -- what isn't live any more was dropped
+  -- what isn't in the stream any more was dropped
   pub was-dropped : has_id (ids_of (present_entries past)) x ≡ true → has_id (ids_of (present_entries (change ∷ past))) x ≡ false → removes_id change (top past) (ids_of (filter (λ e. is_present past e.0) (added_in past) ++ entries_added_by change (top past))) x ≡ true
   was-dropped v w =
       by (removes_id change (top past) (ids_of (filter (λ e. is_present past e.0) (added_in past) ++ entries_added_by change (top past))) x) refl
@@ -101,14 +101,14 @@ none-life : (stream : Option (List StreamEvent)) (x : Id) → place_in stream No
 none-life None x = refl
 none-life (Some changes) x = refl
 
--- what is dropped now isn't live
+-- what is dropped now isn't in the stream
 pub not-present : (change : StreamEvent) (past : List StreamEvent) (x : Id) → removes_id change (top past) (ids_of (filter (λ e. is_present past e.0) (added_in past) ++ entries_added_by change (top past))) x ≡ true
     → has_id (ids_of (present_entries (change ∷ past))) x ≡ false
 not-present change past x d =
     has_id-present (change ∷ past) x
     ∙ ap (λ b. cond b false (cond (has_id (ids_of (entries_added_by change (top past))) x) true (is_present past x)) && has_id (ids_of (added_in (change ∷ past))) x) d
 
--- what is given now is new
+-- what is added now is new
 new-now : (change : StreamEvent) (past : List StreamEvent) (x : Id) → has_id (ids_of (added_in past)) x ≡ false → has_id (ids_of (added_in (change ∷ past))) x ≡ true → has_id (ids_of (entries_added_by change (top past))) x ≡ true
 new-now change past x g h =
     ap (λ b. b || has_id (ids_of (entries_added_by change (top past))) x) (sym g)
@@ -144,7 +144,7 @@ module _ (command : Command) (key group : List ℕ) (x : Id) where
   unborn : (ids : List Id) (one other : Option (List StreamEvent)) → MovesAlong command key group ids x (place_in one None x) (place_in other None x)
   unborn ids one other = subst (λ p. MovesAlong command key group ids x p (place_in other None x)) (sym (none-life one x)) (subst (λ q. MovesAlong command key group ids x None q) (sym (none-life other x)) tt)
 
-  -- what a change does the command is told to do
+  -- the command accounts for what a change does
   record Changes (change : StreamEvent) (past : List StreamEvent) : Type 0 where
     may : removes_id change (top past) (ids_of (filter (λ e. is_present past e.0) (added_in past) ++ entries_added_by change (top past))) x ≡ true → (deletes_entry command key x || may_trim_entry command key (ids_of (present_entries past)) x) ≡ true
     must : deletes_entry command key x ≡ true → (ids : List Id) → removes_id change (top past) ids x ≡ true
@@ -186,7 +186,7 @@ module _ (command : Command) (key group : List ℕ) (x : Id) where
 
 -- ---- an ask of the group
 
--- what an ask does to an entry the command is told to do
+-- the command accounts for what an ask does to an entry
 record Causes (command : Command) (key group : List ℕ) (ids : List Id) (x : Id) (now : ℕ) (ask : GroupAsk) : Type 0 where
   hands_out : (a : Id) → has_id (new_ids_of_ask ask ids a) x ≡ true → reads_without_noack ask ≡ false → (reads_new_entries_in command key group && has_noack command) ≡ true
   delivers : (a : Id) → has_id (new_ids_of_ask ask ids a) x ≡ true → reads_without_noack ask ≡ true → ((reads_new_entries_in command key group && not (has_noack command)) ≡ true) × (reader_or_claimer command ≡ consumer_of ask)
@@ -198,7 +198,7 @@ record Causes (command : Command) (key group : List ℕ) (ids : List Id) (x : Id
       → (acknowledges_entry command key group x || (removes_consumer command key group name || (claims_by_id command key group x && not (has_id ids x)))) ≡ true
       → (is_acknowledgement_of ask x || (deletes_consumer ask name || has_id (claim_of_ask ask now ids es).removed x)) ≡ true
 
--- whose owner is there has a row
+-- an entry whose owner is known has a row
 has-row : (start : Id) (events : List GroupEvent) (x : Id) (name : List ℕ) → owner start events x ≡ Some name → is_some (row_at (rows start events) x) ≡ true
 has-row start events x name o = ap is_some (row-found start events x) ∙ by (pending_row_at start events x) (sym (owner-row start events x) ∙ o) where
   by : (r : Option RowState) → of_row r ≡ Some name → is_some r ≡ true
@@ -256,7 +256,7 @@ goes-asked command key group x now ask (Some changes) (Some life) causes = by (h
     owes (place_of life (ids_of (present_entries changes)) x) refl,
   )
 
--- ---- what each command is told to do
+-- ---- what each command accounts for
 
 join-causes : (k g consumer key group : List ℕ) (ids : List Id) (x : Id) (now : ℕ) → Causes (ConsumerCreate k g consumer) key group ids x now (create_consumer consumer)
 join-causes k g consumer key group ids x now = record {
@@ -377,14 +377,14 @@ goes-read now read key group here stream life x (one ∷ more) distinct asks =
 
 -- ---- an event
 
--- a command that asks the group, where it is this one
+-- a command that asks the group, if it is this one
 asks-group : (command : Command) (key group : List ℕ) (x : Id) (now : ℕ) (ask : GroupAsk) (stream : Option (List StreamEvent)) (life : Option GroupLife) (t : Bool)
     → (t ≡ true → Causes command key group (present_in stream) x now ask) → (t ≡ false → IsIdle command key group x)
     → MovesAlong command key group (present_in stream) x (place_in stream life x) (place_in stream (cond t (life_after_ask now (present_in stream) ask life) life) x)
 asks-group command key group x now ask stream life true causes idle = goes-asked command key group x now ask stream life (causes refl)
 asks-group command key group x now ask stream life false causes idle = same command key group x (idle refl) (present_in stream) (place_in stream life x)
 
--- a command that changes the stream, where it is this one
+-- a command that changes the stream, if it is this one
 changes-stream : (command : Command) (key group : List ℕ) (x : Id) (change : StreamEvent) (stream : Option (List StreamEvent)) (life : Option GroupLife) (t : Bool) → SeesItsKey stream life
     → (t ≡ true → (past : List StreamEvent) → Changes command key group x change past) → (t ≡ false → IsIdle command key group x)
     → MovesAlong command key group (present_in stream) x (place_in stream life x) (place_in (cond t (option_map (λ changes. change ∷ changes) stream) stream) life x)
@@ -392,7 +392,7 @@ changes-stream command key group x change stream life false sees does idle = sam
 changes-stream command key group x change None life true sees does idle = tt
 changes-stream command key group x change (Some past) life true sees does idle = goes-changed command key group x change past life sees (does refl past)
 
--- an addition may make the stream
+-- an addition that may create the stream
 adds : (command : Command) (key group : List ℕ) (x : Id) (change : StreamEvent) (make : Bool) (stream : Option (List StreamEvent)) (life : Option GroupLife) (t : Bool) → SeesItsKey stream life
     → (t ≡ true → (past : List StreamEvent) → Changes command key group x change past) → (t ≡ false → IsIdle command key group x)
     → MovesAlong command key group (present_in stream) x (place_in stream life x) (place_in (cond t (option_map (λ changes. change ∷ changes) (life_or_new make stream)) stream) life x)
@@ -400,7 +400,7 @@ adds command key group x change make (Some past) life t sees does idle = changes
 adds command key group x change make None None t sees does idle = unborn command key group x [] None (cond t (option_map (λ changes. change ∷ changes) (life_or_new make None)) None)
 adds command key group x change make None (Some life) t sees does idle = absurd sees
 
--- what a trim drops behind an addition
+-- what a trim drops after an addition
 pub trimmed-below : (given : Result Id AddError) (fields : List Field) (trim : Option Trim) (es : List (Id × List Field)) (x : Id)
     → (is_ok given && option_map_or (λ t. is_trimmed t (ids_of (es ++ entry_of given fields)) x) trim false) ≡ true → option_map_or (λ t. is_trimmed_after_addition t (ids_of es) x) trim false ≡ true
 trimmed-below (Err refusal) fields trim es x e = absurd (false≢true e)
@@ -427,12 +427,12 @@ up_to-next_count : (t x : Id) (ids : List Id) → is_below t x ≡ true → AllU
 up_to-next_count t x [] above up = tt
 up_to-next_count t x (y ∷ ys) above up = (not_above-trans x t y (below-not_back t x above) up.0, up_to-next_count t x ys above up.1)
 
--- what is given is above the top
+-- what is added is above the top
 added-above : (given : Result Id AddError) (fields : List Field) (t x : Id) → ((y : Id) → given ≡ Ok y → is_below t y ≡ true) → has_id (ids_of (entry_of given fields)) x ≡ true → is_below t x ≡ true
 added-above (Err refusal) fields t x above new = absurd (false≢true new)
 added-above (Ok id) fields t x above new = subst (λ y. is_below t y ≡ true) (sym (is_same_id-eq x id (or_false (is_same_id x id) new))) (above id refl)
 
--- a trim drops what was added with it only by itself
+-- a trim drops what was added with it only by its own rule
 trims-own : (given : Result Id AddError) (fields : List Field) (trim : Trim) (es : List (Id × List Field)) (x : Id) → AllUpTo x (ids_of es) → has_id (ids_of (entry_of given fields)) x ≡ true
     → is_trimmed trim (ids_of (es ++ entry_of given fields)) x ≡ true → trims_new trim x ≡ true
 trims-own (Err refusal) fields trim es x up new e = absurd (false≢true new)
@@ -447,7 +447,7 @@ trims-own (Ok id) fields (MaxLen n) es x up new e = ap (nat_le n) (sym count) �
       ∙ length-append (filter (λ y. is_below x y) (ids_of es)) (cond (is_below x id) (id ∷ []) [])
       ∙ (λ i. none-above x (ids_of es) up i + length (cond (itself i) (id ∷ []) []))
 
--- what is added stands in the stream, unless the addition's own trim drops it
+-- what is added is in the stream, unless the addition's own trim drops it
 trim-needed : (now : ℕ) (id : AddId) (fields : List Field) (trim : Option Trim) (past : List StreamEvent) (x : Id) → has_id (ids_of (entries_added_by (add_entry now id fields trim) (top past))) x ≡ true
     → has_id (ids_of (present_entries (add_entry now id fields trim ∷ past))) x ≡ false → option_map_or (λ t. trims_new t x) trim false ≡ true
 trim-needed now id fields trim past x new gone =
@@ -482,7 +482,7 @@ added-first now add past x new life ids d =
     by true false e true f = tt
     by true false e false f = trim-needed now add.id add.fields add.trim past x new f
 
--- where a new group finds what was given
+-- where a new group finds what was added
 new-group : (start : GroupStart) (changes : List StreamEvent) (x : Id) → has_id (ids_of (added_in changes)) x ≡ true
     → place_of (life_of (starting_id start (top changes)) []) (ids_of (present_entries changes)) x ≡ found_at start (ids_of (present_entries changes)) x
 new-group (At id) changes x given = refl
@@ -589,7 +589,7 @@ pub goes-along : (past : History) (now : ℕ) (command : Command) (key group : L
 goes-along past now command key group x formed =
     goes-lived now command key group (list_all (λ one. is_some (group_life past one.key (read_group_of command))) (reads_of command)) (key_life past key) (group_life past key group) x formed (sees-life past key group)
 
--- ---- for good
+-- ---- final places
 
 no_arrow : (command : Command) (key group : List ℕ) (ids : List Id) (x : Id) (here there : Place) → is_final here ≡ true → HasArrow command key group ids x here there → ⊥
 no_arrow command key group ids x before_start there f h = h

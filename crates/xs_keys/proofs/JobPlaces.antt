@@ -1,4 +1,4 @@
--- The place of an entry: it is one, and an event of the group moves it along an arrow.
+-- The place of an entry: there is only one, and an event of the group moves it along an arrow.
 use Rattle.std.proofs.Common.{◌≡◌, ℕ, Bool, true, false, cond, not, ◌&&◌, ◌||◌, List, [], ◌∷◌, Option, Some, None}
 use Rattle.std.proofs.Common.{is_some, sym, ap, ◌∙◌, refl}
 use Rattle.std.proofs.lemmas.Bool.{false≢true, or_left, or_right}
@@ -37,7 +37,7 @@ assigned-delivered start (event ∷ past) x e =
       not_assigned true f = λ i. cond ((f i && n i) || g i) (consumer_of event.ask) (last_assignee start past x)
       not_assigned false f = λ i. cond ((f i && n i) || g i) (consumer_of event.ask) (last_assignee start past x)
 
--- whoever has it is who it was last assigned to
+-- the owner is the consumer to whom it was last assigned
 pub owner-last : (start : Id) (events : List GroupEvent) (x : Id) (name : List ℕ) → owner start events x ≡ Some name → last_assignee start events x ≡ Some name
 owner-last start events x name e = by (is_settled start events x) e where
   by : (s : Bool) → cond s None (last_assignee start events x) ≡ Some name → last_assignee start events x ≡ Some name
@@ -46,18 +46,18 @@ owner-last start events x name e = by (is_settled start events x) e where
 
 -- ---- one place
 
--- a delivered one is past the start
+-- a delivered entry is above the start
 past : (start : Id) (events : List GroupEvent) (x : Id) → has_id (delivered_ids start events) x ≡ true → is_below start x ≡ true
 past start events x e = above-has start (delivered_ids start events) x (past-start start events) e
 
--- the place by what is asked about the entry
+-- the place, by what is known of the entry
 abbrev pub place_by : Bool → Bool → Bool → Option (List ℕ) → Option (List ℕ) → Place
 place_by above went there last has = cond (not above) before_start (cond went (place_of_delivered last has) (cond there waiting dropped))
 
 abbrev pub life_of : Id → List GroupEvent → GroupLife
 life_of start events = record { start = start; events = events }
 
--- where a delivered one stands
+-- the place of a delivered entry
 at-delivered : (start : Id) (events : List GroupEvent) (present : List Id) (x : Id) → has_id (delivered_ids start events) x ≡ true
     → place_of (life_of start events) present x ≡ place_of_delivered (last_assignee start events x) (owner start events x)
 at-delivered start events present x d = λ i. place_by (past start events x d i) (d i) (has_id present x) (last_assignee start events x) (owner start events x)
@@ -105,7 +105,7 @@ has-one-place life changes asc sees x = (
 
 -- ---- an event of the group
 
--- what an event of a group makes of the place of an entry
+-- how an event of a group moves an entry
 pub data Went (start : Id) (past : List GroupEvent) (event : GroupEvent) (x : Id) (here there : Place) : Type 0 where
   stayed : there ≡ here → Went start past event x here there
   was_handed_out : has_id (new_ids_of_event event (cursor start past)) x ≡ true → reads_without_noack event.ask ≡ false → here ≡ waiting → there ≡ handed_out → Went start past event x here there
@@ -122,7 +122,7 @@ module _ (start : Id) (before : List GroupEvent) (event : GroupEvent) (x : Id) (
   delivered-after : has_id (delivered_ids start (event ∷ before)) x ≡ (has_id (delivered_ids start before) x || has_id (new_ids_of_event event (cursor start before)) x)
   delivered-after = has_id-append (delivered_ids start before) (new_ids_of_event event (cursor start before)) x
 
-  -- where it stands after the event, if it was delivered before
+  -- its place after the event, if it was delivered before
   after-delivered : has_id (delivered_ids start before) x ≡ true
       → place_of (life_of start (event ∷ before)) present x
       ≡ place_of_delivered (cond (is_taken_by_claim start before event x) (consumer_of event.ask) (last_assignee start before x))
@@ -227,7 +227,7 @@ module _ (start : Id) (before : List GroupEvent) (event : GroupEvent) (x : Id) (
     by true d = went-delivered d
     by false d = went-undelivered d
 
-  -- what has an owner and is settled stands so
+  -- an entry that has an owner and is settled is at the place `settled`
   pub settled-now : (name : List ℕ) → owner start before x ≡ Some name → may_settle_entry start before event x ≡ true → place_of (life_of start (event ∷ before)) present x ≡ settled
   settled-now name o s =
       after-delivered (owned-delivered start before x (ap is_some o))
@@ -241,7 +241,7 @@ module _ (start : Id) (before : List GroupEvent) (event : GroupEvent) (x : Id) (
           let last = owner-last start before x name o in
           λ i. place_of_delivered (cond (t i) (consumer_of event.ask) (last i)) (cond (t i) (consumer_of event.ask) (cond (s i) None (owner start before x)))
 
--- ---- what a place tells
+-- ---- what a place means
 
 abbrev is_with : Place → Option (List ℕ)
 is_with (pending name) = Some name

@@ -1,4 +1,4 @@
--- What the keys in memory hold, where a key comes, goes or changes.
+-- The content of the keys in memory if a key is added, removed or changed.
 use Rattle.std.proofs.Common.{◌≡◌, ℕ, Bool, true, false, cond, ◌&&◌, List, [], ◌∷◌, map, length, suc, Option, Some, None, sym, ap, ◌∙◌, refl}
 use Rattle.std.proofs.Common.{subst, Result, Ok, Err, OnOk}
 use Rattle.std.specs.Prelude.{T}
@@ -38,7 +38,7 @@ content-insert m name key = same_map _ _ (λ q.
     get-content (insert m name key) q ∙ ap state_in (get-insert m name key q) ∙ push (is_same_name q name) (Some key) (get m q)
     ∙ ap (cond (is_same_name q name) (Some (key_state_of key))) (sym (get-content m q)) ∙ sym (get-insert (content_of m) name (key_state_of key) q))
 
--- and where it may be refused
+-- and if that may be refused
 pub content-put : {A E : Type 0} (r : Result A E) (m n : NameMap KeyInMemory) (name : List ℕ) (key : KeyInMemory) → OnOk r (n ≡ insert m name key)
     → OnOk r (content_of n ≡ insert (content_of m) name (key_state_of key))
 content-put (Ok done) m n name key is = ap content_of is ∙ content-insert m name key
@@ -64,14 +64,14 @@ length-states : (es : Held) → length (states es) ≡ length es
 length-states [] = refl
 length-states (e ∷ es) = ap suc (length-states es)
 
--- each key with what it holds
+-- each key with its content
 pub entries-content : (m : NameMap KeyInMemory) → (content_of m).entries ≡ states m.entries
 unfolding get
 entries-content m =
     same_entries (slice_cmp nat_cmp) nat_list_cmp_total name_exact (content_of m).entries (states m.entries) (content_of m).sorted
     (subst T (sym (sorted-states m.entries)) m.sorted) (λ q. get-of_entries nat_list_cmp_total (states m.entries) q)
 
--- as many keys are there
+-- there are as many keys
 pub length-content : (m : NameMap KeyInMemory) → length (content_of m).entries ≡ length m.entries
 length-content m = ap length (entries-content m) ∙ length-states m.entries
 

@@ -1,4 +1,4 @@
--- A name behind all others.
+-- A name above all others.
 use Rattle.std.proofs.Common.{◌≡◌, ℕ, ◌-◌, Bool, true, false, ◌&&◌, List, [], ◌∷◌, ◌++◌, length, suc, slice_get, Some, None}
 use Rattle.std.proofs.Common.{Ordering, sym, ap, ◌∙◌, refl, arith}
 use Rattle.std.proofs.lemmas.Bool.{false≢true}
@@ -24,7 +24,7 @@ less_from Less h = refl
 less_from Equal h = absurd (false≢true h)
 less_from Greater h = absurd (false≢true h)
 
--- seen from the greater one
+-- the same, from the greater one
 pub name-above : (a b : List ℕ) → is_name_before a b ≡ true → slice_cmp nat_cmp b a ≡ Greater
 name-above a b h = nat_list_cmp_total.antisymm b a ∙ ap ordering_reverse (less_from (slice_cmp nat_cmp a b) h)
 
@@ -57,17 +57,17 @@ module _ {X : Type 0} where
   put-past [] name x h = refl
   put-past (e ∷ es) name x h = rw (name-above e.0 name (first_holds _ _ h)) (ap (λ rest. e ∷ rest) (put-past es name x (second_holds _ _ h)))
 
-  -- such a name isn't there
+  -- such a name isn't in the map
   pub none-past : (m : NameMap X) (name : List ℕ) → is_past_names name m ≡ true → get m name ≡ None
   unfolding get
   none-past m name h = find-past m.entries name h
 
-  -- it is put behind the others
+  -- it is inserted after the others
   pub name-behind : (m : NameMap X) (name : List ℕ) (x : X) → is_past_names name m ≡ true → (insert m name x).entries ≡ m.entries ++ (name, x) ∷ []
   unfolding insert_by
   name-behind m name x h = put-past m.entries name x h
 
-  -- what is above the last is above all
+  -- a name above the last is above all
   pub past-last : (es : List (List ℕ × X)) (name last : List ℕ) (x : X) → T (is_sorted (slice_cmp nat_cmp) es) → slice_get es (length es - 1) ≡ Some (last, x)
       → is_name_before last name ≡ list_all (λ e. is_name_before e.0 name) es
   past-last [] name last x s is = absurd (cc)

@@ -1,4 +1,4 @@
--- What each event delivers of a life, and that no other event does.
+-- What each event of a life delivers, and that no other event delivers anything.
 use Rattle.std.proofs.Common.{◌≡◌, ◌⊎◌, inl, inr, ℕ, Bool, true, false, cond, ◌&&◌, ◌||◌, List, [], ◌∷◌, ◌++◌, Option}
 use Rattle.std.proofs.Common.{Some, None, is_some, bytes_eq, sym, ap, subst, ◌∙◌, refl}
 use Rattle.std.proofs.lemmas.Bool.{false≢true, and_right}
@@ -168,7 +168,7 @@ goes-on past now (Scan scan) key group formed = stays (group_life past key group
 goes-on past now (Pending k g) key group formed = stays (group_life past key group)
 goes-on past now (PendingRows p) key group formed = stays (group_life past key group)
 
--- without a life that is open nothing is delivered
+-- without an open life nothing is delivered
 pub closed : (past : History) (command : Command) (key group : List ℕ) → group_life past key group ≡ None → ids_delivered_by past command key group ≡ []
 closed past command key group e =
     ap (λ life. cond (reads_new_entries command key && (is_same_name group (read_group_of command) && has_all_groups (group_life past) command)) (delivered_in command (present_in (key_life past key)) life) []) e

@@ -33,11 +33,11 @@ module _ {X : Type 0} where
   pub get-remove : (m : NameMap X) (name q : List ℕ) → get (remove m name) q ≡ cond (is_same_name q name) None (get m q)
   get-remove m name q = sorted.get-remove nat_list_cmp_total m name q
 
-  -- maps that answer alike are one
+  -- maps that return the same values are equal
   pub same_map : (m n : NameMap X) → ((q : List ℕ) → get m q ≡ get n q) → m ≡ n
   same_map m n is = sorted.same_map nat_list_cmp_total name_exact m n is
 
-  -- what is there already, put in again, changes nothing
+  -- inserting again what is there changes nothing
   pub insert-same : (m : NameMap X) (name : List ℕ) (x : X) → get m name ≡ Some x → insert m name x ≡ m
   insert-same m name x e = same_map _ m (λ q. get-insert m name x q ∙ by q (is_same_name q name) refl) where
     by : (q : List ℕ) (t : Bool) → is_same_name q name ≡ t → cond t (Some x) (get m q) ≡ get m q

@@ -1,4 +1,4 @@
--- How the memory of named values follows when one comes, goes or changes.
+-- How the memory of named values changes if one is added, removed or replaced.
 use Rattle.std.proofs.Common.{◌≡◌, ℕ, Bool, true, false, cond, not, ◌&&◌, List, [], ◌∷◌, Option, Some, None, is_some, ap, ◌∙◌, refl}
 use Rattle.std.proofs.Common.{◌+◌, suc, arith, length, Ordering}
 use Rattle.std.specs.Prelude.{T}
@@ -23,7 +23,7 @@ module _ {X : Type 0} (room : X → ℕ) where
     by true h = h
     by false h = absurd h
 
-  -- a value that becomes another
+  -- a value that is replaced
   put-changed : (name : List ℕ) (y x : X) (es : List (List ℕ × X)) → T (is_sorted cmp es) → find cmp name es ≡ Some x → sum (put cmp name y es) + room x ≡ sum es + room y
   put-changed name y x [] h found = let no = found in absurd (cc)
   put-changed name y x (e ∷ es) h found = by (put-changed name y x es (tail_sorted e es h)) (cmp name e.0) refl where
@@ -59,7 +59,7 @@ module _ {X : Type 0} (room : X → ℕ) where
     by rest true is = let first : Some e.1 ≡ None = rw is at none in absurd (cc)
     by rest false is = rw is (ap (λ left. e ∷ left) (rest (rw is at none)))
 
-  -- a name that goes
+  -- a name that is removed
   without-there : (name : List ℕ) (x : X) (es : List (List ℕ × X)) → T (is_sorted cmp es) → find cmp name es ≡ Some x
       → sum (where_key cmp (λ x. not (eq_by_cmp cmp name x)) es) + (length name + room x) ≡ sum es
   without-there name x [] h found = let no = found in absurd (cc)

@@ -1,5 +1,5 @@
--- A read is answered with the null array exactly if each key is read from `>`, each group is there, and nothing is new
--- to any.
+-- A read is answered with the null array exactly if each key is read from `>`, each group exists, and nothing is new to
+-- any.
 use Rattle.std.proofs.Common.{◌≡◌, ◌≢◌, ◌&&◌, ℕ, zero, suc, ◌==◌, Bool, true, false, cond, List, [], ◌∷◌, ◌++◌, Option}
 use Rattle.std.proofs.Common.{Some, None, is_some, length, sym, ap, ◌∙◌, refl, arith}
 use Rattle.std.proofs.lemmas.Bool.{false≢true}
@@ -23,7 +23,7 @@ use Rattle.xs_keys.proofs.Truths.{first_of, second_of}
 not_zero : (n : ℕ) → (suc n == 0) ≡ false
 not_zero n = grind (arith, nat_tests)
 
--- the first entry says whether a limit leaves any
+-- the first entry shows whether a limit leaves any
 pub first_decides : (limit : Option ℕ) (ids : List Id) (es : List (Id × List Field)) → ids_of es ≡ up_to_limit (at_most_one limit) ids
     → (length es == 0) ≡ (length (up_to_limit limit ids) == 0)
 first_decides limit ids es e = ap (λ n. n == 0) (sym (length-map es (λ f. f.0)) ∙ ap length e) ∙ by limit ids where
@@ -91,7 +91,7 @@ module _ (content : Content) (now : ℕ) (read : ReadGroupCommand) (one : ReadOn
         (sym (ap (finds_none_in read q) (ap (get content) (is_same_name-eq q.key one.key h) ∙ n.had) ∙ (rw n.has refl)))
     by false h = refl
 
-  -- and each group is still there, or isn't
+  -- and each group still exists, or doesn't
   pub there-same : (q : ReadOne) → is_some (group_in (get after q.key) read.group) ≡ is_some (group_in (get content q.key) read.group)
   there-same q = ap (λ k. is_some (group_in k read.group)) (ap (λ (c : Content). get c q.key) after-is ∙ get-insert content one.key (with_group n.key read.group left) q.key) ∙ by (is_same_name q.key one.key) refl where
     by : (t : Bool) → is_same_name q.key one.key ≡ t → is_some (group_in (cond t (Some (with_group n.key read.group left)) (get content q.key)) read.group) ≡ is_some (group_in (get content q.key) read.group)
@@ -115,7 +115,7 @@ no-parts (one ∷ more) content now read e =
     let rest = no-parts more next now read (same-for-all _ _ more (finds-same content now read one n) ∙ second_of (finds_none_in read one (get content one.key)) _ e) in
     ap (λ (ps : List Reply). ps ++ parts next now read more) (no-part content now read one n) ∙ rest
 
--- their groups are there
+-- their groups exist
 pub all-there : (reads : List ReadOne) (content : Content) (read : ReadGroupCommand) → list_all (λ one. finds_none_in read one (get content one.key)) reads ≡ true
     → list_all (λ one. is_some (group_in (get content one.key) read.group)) reads ≡ true
 all-there [] content read e = refl

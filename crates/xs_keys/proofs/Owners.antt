@@ -1,4 +1,4 @@
--- The owner, by the last assigning event and what settled since, is that of the row; and what one event makes of it.
+-- The owner, by the last assigning event and the later settling ones, is that of the row; and how one event changes it.
 use Rattle.std.proofs.Common.{◌≡◌, ℕ, Bool, true, false, not, cond, ◌&&◌, ◌||◌, ◌⊎◌, inl, inr, List, [], ◌∷◌, ◌++◌}
 use Rattle.std.proofs.Common.{Option, Some, None, option_and_then, option_map, is_some, sym, ap, ◌∙◌, refl}
 use Rattle.std.proofs.lemmas.Option.{same_Some}
@@ -26,7 +26,7 @@ use Rattle.xs_keys.proofs.IdLists.{has_id-append, has_id-where, not_above, not_a
 use Rattle.xs_keys.proofs.GroupSteps.{up_to-delivered}
 use Rattle.xs_keys.proofs.Deliveries.{above-after}
 
--- ---- rows are found where they are held
+-- ---- rows are found where they are stored
 
 find-kept : (q x : Id) (r : Option RowState) (es : List (Id × RowState)) → is_same_id q x ≡ false → row_at (with_some x r es) q ≡ row_at es q
 find-kept q x None es e = refl
@@ -145,7 +145,7 @@ claimed-over ask now present es x e = asked-over ask now present es x e
 
 -- ---- one event
 
--- the owner that a row tells
+-- the owner of a row
 abbrev pub of_row : Option RowState → Option (List ℕ)
 of_row r = option_map (λ row. row.consumer) r
 
@@ -155,7 +155,7 @@ owner-by true may_settle_entry settled asking last = refl
 owner-by false true settled asking last = refl
 owner-by false false settled asking last = refl
 
--- what an event makes of the owner
+-- how an event changes the owner
 pub owner-step : (start : Id) (past : List GroupEvent) (event : GroupEvent) (x : Id)
     → owner start (event ∷ past) x ≡ cond (is_assigned_by start past event x) (consumer_of event.ask) (cond (may_settle_entry start past event x) None (owner start past x))
 owner-step start past event x = owner-by (is_assigned_by start past event x) (may_settle_entry start past event x) (is_settled start past x) (consumer_of event.ask) (last_assignee start past x)
@@ -339,7 +339,7 @@ owned-delivered start past x e = held-delivered start past x (some-row (pending_
   some-row None f = f
   some-row (Some row) f = refl
 
--- what was delivered is assigned by claims alone
+-- what was delivered is assigned again only by claims
 pub assigned-again : (start : Id) (past : List GroupEvent) (event : GroupEvent) (x : Id) → has_id (delivered_ids start past) x ≡ true → is_assigned_by start past event x ≡ is_taken_by_claim start past event x
 assigned-again start past event x d = ap (λ b. (reads_without_noack event.ask && b) || is_taken_by_claim start past event x) (not-again start past event x d) ∙ by (reads_without_noack event.ask) where
   by : (k : Bool) → ((k && false) || is_taken_by_claim start past event x) ≡ is_taken_by_claim start past event x
@@ -388,7 +388,7 @@ claim-named (delete_consumer consumer) now present es x e = refl
 claim-named (claim consumer rule ids) now present es x e = refl
 claim-named (auto_claim consumer rule from limit) now present es x e = refl
 
--- what was delivered stays so
+-- what was delivered stays delivered
 still-delivered : (start : Id) (later : List GroupEvent) (before : List GroupEvent) (x : Id) → has_id (delivered_ids start before) x ≡ true → has_id (delivered_ids start (later ++ before)) x ≡ true
 still-delivered start [] before x d = d
 still-delivered start (u ∷ later) before x d =
@@ -434,7 +434,7 @@ pub owned-until-settled : (start : Id) (events : List GroupEvent) → OwnedUntil
 owned-until-settled start events = λ later event earlier x e d.
     ap (λ ts. is_some (owner start ts x)) e ∙ until-settled start later event earlier x d
 
--- what is delivered or taken belongs to the consumer who asked
+-- what is delivered or taken belongs to the consumer that asked
 assigned-owner : (start : Id) (past : List GroupEvent) (event : GroupEvent) (x : Id) → is_assigned_by start past event x ≡ true → owner start (event ∷ past) x ≡ consumer_of event.ask
 assigned-owner start past event x h = λ i. cond (cond (h i) false (may_settle_entry start past event x || is_settled start past x)) None (cond (h i) (consumer_of event.ask) (last_assignee start past x))
 

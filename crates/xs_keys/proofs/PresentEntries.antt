@@ -1,4 +1,4 @@
--- Entries that a stream lends are those that are looked for by their ids.
+-- Entries that a stream lends are those that are found by their ids.
 use Rattle.std.proofs.Common.{◌≡◌, ℕ, ◌&&◌, eqb, arith, Bool, true, List, [], ◌∷◌, map}
 use Rattle.std.proofs.Common.{Option, Some, sym, ap, ◌∙◌, refl}
 use Rattle.std.proofs.lemmas.Bool.Decides.{nat_tests}

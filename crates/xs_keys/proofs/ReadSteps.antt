@@ -1,4 +1,4 @@
--- Reads of groups: what one leaves, how several go on, and how they are taken back.
+-- Reads of groups: the content after one, several of them, and how they are undone.
 use Rattle.std.proofs.Common.{append_assoc, length-append, subst, ◌≡◌, ◌&&◌, ℕ, ◌+◌, ◌<◌, ◌≤◌, Bool, true, false, cond}
 use Rattle.std.proofs.Common.{List, [], ◌∷◌, ◌++◌, Option, Some, None, is_some, length, get_or, sym, ap, ◌∙◌, refl}
 use Rattle.std.proofs.Common.{arith}
@@ -30,7 +30,7 @@ pub ids-shown : (rows : Rows) (present ids : List Id) → row_ids (shown_rows ro
 ids-shown rows present [] = refl
 ids-shown rows present (x ∷ xs) = ap (λ rest. x ∷ rest) (ids-shown rows present xs)
 
--- what was put in goes where the value before it is put in again
+-- an insertion is undone by inserting the value before it again
 pub insert-back : {X : Type 0} (m : NameMap X) (name : List ℕ) (a b : X) → get m name ≡ Some b → insert (insert m name a) name b ≡ m
 insert-back m name a b e = same_map _ m (λ q. get-insert (insert m name a) name b q ∙ by q (is_same_name q name) refl) where
   by : (q : List ℕ) (t : Bool) → is_same_name q name ≡ t → cond t (Some b) (get (insert m name a) q) ≡ get m q
@@ -40,7 +40,7 @@ insert-back m name a b e = same_map _ m (λ q. get-insert (insert m name a) name
 pub get-inserted : {X : Type 0} (m : NameMap X) (name : List ℕ) (a : X) → get (insert m name a) name ≡ Some a
 get-inserted m name a = get-insert m name a name ∙ ap (λ t. cond t (Some a) (get m name)) (is_same_name-refl name)
 
--- an ask of a group that is there
+-- an ask of a group that exists
 pub asked-at : (content : Content) (now : ℕ) (name group_name : List ℕ) (ask : GroupAsk) (key : KeyState) (was : GroupState)
     → get content name ≡ Some key → get key.groups group_name ≡ Some was
     → after_ask content now name group_name ask ≡ insert content name (with_group key group_name (group_after now (ids_of key.stream.entries) ask was))
@@ -53,7 +53,7 @@ parts-shown : (read : ReadGroupCommand) (key : List ℕ) (from : ReadFrom) (entr
 parts-shown read key New entries group = refl
 parts-shown read key (After id) entries group = refl
 
--- a read of a group that is there is one among the keys
+-- a read of a group that exists, among the keys
 pub served-at : (now : ℕ) (read : ReadGroupCommand) (one : ReadOne) (before : Content) (key : KeyState) (was is : GroupState) (tokens longer : List Token) (ids : List Id) (served : Served)
     → get before one.key ≡ Some key → get key.groups read.group ≡ Some was
     → is ≡ group_after now (ids_of key.stream.entries) (ask_of_read read one.from) was
@@ -69,7 +69,7 @@ served-at now read one before key was is tokens longer ids served had has left i
       made = record { key = key; was = was; is = is; had = had; has = has; put = refl; made = made };
     }
 
--- ---- what is there stays there
+-- ---- what exists still exists
 
 module _ (group name : List ℕ) (before after : Content) (d : Delivery) (m : IsMadeAt group name before after d) where
   pub stays-there : (q : List ℕ) → is_some (group_in (get before q) group) ≡ true → is_some (group_in (get after q) group) ≡ true
@@ -125,7 +125,7 @@ made-shorter group [] (e ∷ ds) first last d all = absurd all
 made-shorter group (r ∷ reads) [] first last d all = omega arith
 made-shorter group (r ∷ reads) (e ∷ ds) first last d all = omega (arith, made-shorter group reads ds all.0 last d all.2)
 
--- ---- one read taken back
+-- ---- one read undone
 
 module _ (group name : List ℕ) (before after : Content) (d : Delivery) (m : IsMadeAt group name before after d) where
   found : get after name ≡ Some (with_group m.key group m.is)
@@ -134,7 +134,7 @@ module _ (group name : List ℕ) (before after : Content) (d : Delivery) (m : Is
   pub made-there : is_some (group_in (get after name) group) ≡ true
   made-there = ap (λ k. is_some (group_in k group)) found ∙ ap is_some (get-inserted m.key.groups group m.is)
 
-  -- the key that is there is the one that the read left
+  -- the key that exists is the one that the read left
   key-left : (key : KeyState) → get after name ≡ Some key → with_group m.key group m.is ≡ key
   key-left key there =
       let e : Some (with_group m.key group m.is) ≡ Some key = sym found ∙ there in
@@ -161,7 +161,7 @@ first-there test one more h = by (test one) h where
   by true h = refl
   by false h = absurd (false≢true h)
 
--- of all these reads some are left, and lead to where all of them would
+-- of all these reads some are left, and they lead to the content that all of them would lead to
 pub record Underway (now : ℕ) (read : ReadGroupCommand) (all : List ReadOne) (first : Content) (left : List ReadOne) (here : Content) (tokens : List Token) (count : ℕ) : Type 0 where
   pub content : after_reads here now read left ≡ after_reads first now read all
   pub shown : tokens ++ flat_map tokens_of (parts here now read left) ≡ flat_map tokens_of (parts first now read all)
@@ -187,7 +187,7 @@ one-more now read all first one more before after tokens longer count served u s
       by true h = h
       by false h = absurd (false≢true h)
 
--- a read has one part at most
+-- a read has at most one part
 pub one-part : (read : ReadGroupCommand) (key : List ℕ) (from : ReadFrom) (entries : List (Id × List Field)) (group : Option GroupState)
     → length (option_map_or (parts_of_read read key from entries) group []) ≤ 1
 one-part read key from entries None = omega arith
@@ -197,7 +197,7 @@ one-part read key New entries (Some group) = by (new_ids read.limit group.cursor
   by [] = omega arith
   by (x ∷ xs) = omega arith
 
--- so all of them have no more parts than they are
+-- so all of them together have at most as many parts as there are reads
 pub parts-le : (content : Content) (now : ℕ) (read : ReadGroupCommand) (reads : List ReadOne) → length (parts content now read reads) ≤ length reads
 parts-le content now read [] = omega arith
 parts-le content now read (one ∷ more) =

@@ -48,7 +48,7 @@ first-below id other = by (id_cmp zero_id id) refl where
   by Equal e = absurd (other (sym (same_id zero_id id e)))
   by Greater e = absurd (never (nat_cmp 0 id.ms) (nat_cmp 0 id.seq) refl refl e)
 
--- a new stream refuses no id that words give
+-- a new stream refuses no id that words can spell
 never-refused : (now : ℕ) (id : AddId) → IsAddId id → is_error (assigned_reply (id_of_addition now zero_id id)) ≡ false
 never-refused now Auto formed = refl
 never-refused now (AutoSeq ms) formed = by (eqb ms 0) (ltb 0 ms) refl refl where
@@ -60,7 +60,7 @@ never-refused now (Exact id) formed = rw (first-below id formed) refl
 
 -- ---- commands
 
--- a refused addition leaves the stream
+-- a refused addition leaves the stream unchanged
 refused-stream : (given : Result Id AddError) (fields : List Field) (trim : Option Trim) (stream : StreamState) → is_error (assigned_reply given) ≡ true → stream_with given fields trim stream ≡ stream
 refused-stream (Ok id) fields trim stream e = absurd (false≢true e)
 refused-stream (Err refusal) fields trim stream e = refl
@@ -79,7 +79,7 @@ no_error_taken : (just_id : Bool) (entries : List (Id × List Field)) (ids : Lis
 no_error_taken true entries ids = refl
 no_error_taken false entries ids = refl
 
--- a group that isn't there is asked nothing
+-- a group that doesn't exist is not asked
 refused-ask : (content : Content) (now : ℕ) (name group : List ℕ) (ask : GroupAsk) (said : GroupState → Reply) → ((s : GroupState) → is_error (said s) ≡ false)
     → is_error (reply_of_group (group_in (get content name) group) said) ≡ true → after_ask content now name group ask ≡ content
 refused-ask content now name group ask said never = by (group_in (get content name) group) refl where
@@ -87,7 +87,7 @@ refused-ask content now name group ask said never = by (group_in (get content na
   by None missing e = asked-missing content now name group ask missing
   by (Some s) found e = absurd (false≢true (sym (never s) ∙ e))
 
--- neither is one of a key that isn't there
+-- nor is one of a key that doesn't exist
 refused-within : (content : Content) (now : ℕ) (name group : List ℕ) (ask : GroupAsk) (said : GroupState → Reply) → ((s : GroupState) → is_error (said s) ≡ false)
     → is_error (reply_of_key (get content name) (λ k. reply_of_group (get k.groups group) said)) ≡ true → after_ask content now name group ask ≡ content
 refused-within content now name group ask said never = by (get content name) refl where

@@ -1,4 +1,4 @@
--- The rows that XPENDING tells are those of what is pending.
+-- The rows that XPENDING reports are those of the pending entries.
 use Rattle.std.proofs.Common.{◌≡◌, zero, suc, ℕ, ◌≤◌, ◌-◌, Bool, true, false, cond, ◌&&◌, ◌||◌, List, [], ◌∷◌, filter}
 use Rattle.std.proofs.Common.{map, take, Option, Some, None, is_some, sym, ap, subst, ◌∙◌, refl, arith}
 use Rattle.std.specs.Prelude.{nat_le}
@@ -87,7 +87,7 @@ map-twice : (f : Id × RowState → PendingRow) (g : PendingRow → Reply) (es :
 map-twice f g [] = refl
 map-twice f g (e ∷ es) = ap (λ rest. g (f e) ∷ rest) (map-twice f g es)
 
--- ---- what is told
+-- ---- what is reported
 
 module _ (asked : PendingRowsCommand) (now : ℕ) (life : GroupLife) (asc : Ascends (map (λ e. e.0) (rows life.start life.events))) where
   abbrev pub all : List (Id × RowState)

@@ -34,7 +34,7 @@ use Rattle.xs_keys.proofs.Arrivals.{entries-added, groups-created}
 use Rattle.xs_keys.proofs.Refusals.{refused-unchanged}
 use Rattle.xs_keys.proofs.EntriesStay.{entries-stay, groups-stay}
 
--- from this past on, the answers so far are good, whatever good answers to the rest of the events follow
+-- from this past on, the replies so far are good, whatever good replies to the rest of the events follow
 abbrev pub SoFar : History → History → List Reply → History → History → Type 0
 SoFar past events replies mid rest = (answers : List Reply) (last : History) → AreReplied mid rest answers last → AreReplied past events (replies ++ answers) last
 
@@ -46,7 +46,7 @@ RunsSoFar old events replies now rest =
 pub runs-none : (old : Content) (events : History) → RunsSoFar old events [] old events
 runs-none old events = λ past is. (past, is, λ answers last done. done)
 
--- how a step goes on with a history
+-- how a step continues a history
 pub step-follows : (past : History) (old new : Content) (now : ℕ) (command : Command) (answer : Reply) → IsWellFormed command → IsContent old past → Step old now command answer new
     → (next : History) × IsContent new next × JoinsOrIsLeftOut past now command answer next
 step-follows past old new now command answer formed is (inl applied) = (

@@ -1,4 +1,4 @@
--- The part that a scan comes to, and the cursor where it goes on.
+-- The part that a scan reaches, and the cursor at which the next one goes on.
 use Rattle.std.proofs.Common.{◌≡◌, ℕ, ◌++◌, Bool, true, false, cond, ◌||◌, List, [], ◌∷◌, map, sym, ap, subst, ◌∙◌}
 use Rattle.std.proofs.Common.{refl}
 use Rattle.std.proofs.lemmas.List.{append-nil}
@@ -71,7 +71,7 @@ ascends-later : (part rest : List Id) → Ascends (part ++ rest) → Ascends res
 ascends-later [] rest asc = asc
 ascends-later (p ∷ ps) rest asc = ascends-later ps rest asc.1
 
--- a scan has come to what is before its cursor, and to nothing else
+-- a scan has reached what is before its cursor, and nothing else
 pub before-part : (part rest : List Id) → Ascends (part ++ rest) → (x : Id) → has_id part x ≡ true → passes (first_or_zero rest) x ≡ true
 before-part part [] asc x h = ap (λ t. t || is_below x zero_id) (is_same_id-refl zero_id)
 before-part part (y ∷ ys) asc x h = or_right (is_same_id y zero_id) (is_below x y) (below-later part y ys asc x h)

@@ -1,4 +1,4 @@
--- A stream by looking back, and a stream step by step: they are the same.
+-- A stream by looking back, and a stream step by step, are the same.
 use Rattle.std.proofs.Common.{◌≡◌, Bool, true, false, not, cond, ◌&&◌, List, [], ◌∷◌, ◌++◌, filter, length, length-append, Option, Some, None}
 use Rattle.std.proofs.Common.{Result, Ok, Err, is_ok, sym, ap, ◌∙◌, refl}
 use Rattle.std.proofs.lemmas.List.{append-nil}
@@ -16,7 +16,7 @@ pub greatest-append : (a : Id) (xs ys : List Id) → greatest a (xs ++ ys) ≡ g
 greatest-append a [] ys = refl
 greatest-append a (x ∷ xs) ys = greatest-append (cond (is_below a x) x a) xs ys
 
--- it is none below the one that it began with
+-- it is not below the id that it began with
 pub greatest-up : (a : Id) (xs : List Id) → is_below (greatest a xs) a ≡ false
 greatest-up a [] = below-irrefl a
 greatest-up a (x ∷ xs) = by (greatest-up x xs) (greatest-up a xs) (is_below a x) refl where
@@ -37,7 +37,7 @@ up_to-top changes = up_to-greatest zero_id (ids_of (added_in changes))
 
 -- ---- ids ascend
 
--- what a result gives to a list that ascends up to the top
+-- what a result adds to a list that ascends up to the top
 ascends-entry : (given : List (Id × List Field)) (t : Id) (r : Result Id AddError) (fields : List Field) → ((id : Id) → r ≡ Ok id → is_below t id ≡ true)
     → Ascends (ids_of given) → AllUpTo t (ids_of given) → Ascends (ids_of (given ++ entry_of r fields))
 ascends-entry given t (Ok id) fields above a up = rw (ids_of-append given ((id, fields) ∷ [])) (ascends-push (ids_of given) t id a up (above id refl))
@@ -66,9 +66,9 @@ top-entry past (Ok id) fields trim above =
     ap (greatest zero_id) (ids_of-append (added_in past) ((id, fields) ∷ [])) ∙ greatest-append zero_id (ids_of (added_in past)) (id ∷ []) ∙ ap (λ b. cond b id (top past)) (above id refl)
 top-entry past (Err e) fields trim above = ap top_of (append-nil (added_in past))
 
--- ---- the step of what is live
+-- ---- the step of the entries in the stream
 
--- a new id is none of those given before
+-- a new id is none of those added before
 not_new : (t : Id) (r : Result Id AddError) (fields : List Field) (x : Id) → ((id : Id) → r ≡ Ok id → is_below t id ≡ true) → is_below t x ≡ false → has_id (ids_of (entry_of r fields)) x ≡ false
 not_new t (Ok id) fields x above up = rw (below-not_same x id (up_to-below t x id up (above id refl))) refl
 not_new t (Err e) fields x above up = refl
@@ -78,7 +78,7 @@ adds-not_new (add_entry now id fields trim) t x up = not_new t (id_of_addition n
 adds-not_new (delete_entries ids) t x up = refl
 adds-not_new (trim_entries trim) t x up = refl
 
--- a filter of entries up to t, by a test that differs at ids above t alone
+-- a filter of entries up to t, by a test that differs only at ids above t
 filter-up_to : (t : Id) (p q : Id → Bool) → ((x : Id) → is_below t x ≡ false → p x ≡ q x) → (es : List (Id × List Field)) → AllUpTo t (ids_of es) → filter (λ e. p e.0) es ≡ filter (λ e. q e.0) es
 filter-up_to t p q same [] up = refl
 filter-up_to t p q same (e ∷ es) up = rw (same e.0 up.0) (ap (λ rest. cond (q e.0) (e ∷ rest) rest) (filter-up_to t p q same es up.1))
@@ -90,7 +90,7 @@ filter-append p (x ∷ xs) ys = by (filter-append p xs ys) (p x) where
   by rest true = ap (λ left. x ∷ left) rest
   by rest false = rest
 
--- the new entry stands unless it is dropped at once
+-- the new entry is in the stream unless it is dropped at once
 entry-is_present : (d : Id → Bool) (was : Id → Bool) (r : Result Id AddError) (fields : List Field)
     → filter (λ e. cond (d e.0) false (cond (has_id (ids_of (entry_of r fields)) e.0) true (was e.0))) (entry_of r fields) ≡ filter (λ e. not (d e.0)) (entry_of r fields)
 entry-is_present d was (Ok id) fields = rw (is_same_id-refl id) (by (d id)) where
@@ -111,7 +111,7 @@ both_pass true false = refl
 both_pass false true = refl
 both_pass false false = refl
 
--- after a change those live are what was live and what is new, without what the change drops
+-- after a change the entries in the stream are those before and the new one, without those that the change drops
 pub present-step : (change : StreamEvent) (past : List StreamEvent)
     → present_entries (change ∷ past) ≡ filter (λ e. not (removes_id change (top past) (ids_of (present_entries past ++ entries_added_by change (top past))) e.0)) (present_entries past ++ entries_added_by change (top past))
 present-step change past =
@@ -178,7 +178,7 @@ deleted-after (add_entry now id fields trim) past = deleted-entry past (id_of_ad
 deleted-after (delete_entries ids) past = greatest-append zero_id (deleted_in past) (filter (has_id ids) (ids_of (present_entries past)))
 deleted-after (trim_entries trim) past = refl
 
--- the stream after one more change is what the change makes of the stream
+-- the stream after one more change is the stream changed by it
 pub stream-step : (change : StreamEvent) (past : List StreamEvent) → stream_of (change ∷ past) ≡ stream_after change (stream_of past)
 stream-step change past =
     let t = top-after change past in

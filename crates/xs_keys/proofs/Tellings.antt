@@ -1,4 +1,4 @@
--- The replies to reads and claims tell what is delivered and taken, each entry as it was given.
+-- The replies to reads and claims report what is delivered and taken, each entry as it was added.
 use Rattle.std.proofs.Common.{◌≡◌, ◌∙◌, inl, inr, ℕ, ◌+◌, ◌-◌, ◌≤◌, Bool, true, false, not, cond, ◌&&◌, ◌||◌, List, []}
 use Rattle.std.proofs.Common.{◌∷◌, ◌++◌, length, Option, Some, None, Result, Ok, Err, is_some, filter, map, take}
 use Rattle.std.proofs.Common.{bytes_eq, sym, ap, subst, refl, arith}
@@ -61,13 +61,13 @@ use Rattle.xs_keys.proofs.RowsTold.{rows-told}
 use Rattle.xs_keys.proofs.FirstIds.{limited-first, first-as}
 use Rattle.xs_keys.proofs.AskSteps.{said-of}
 
--- ---- entries as they were given
+-- ---- entries as they were added
 
 -- each of these ids is one of those
 abbrev AreAmong : List Id → List Id → Type 0
 AreAmong xs all = (x : Id) → has_id xs x ≡ true → has_id all x ≡ true
 
--- where some ids are dropped, the others keep their fields
+-- if some ids are dropped, the others keep their fields
 fields-kept : (p : Id → Bool) (given : List (Id × List Field)) (x : Id) → p x ≡ true → fields_at (filter (λ e. p e.0) given) x ≡ fields_at given x
 fields-kept p [] x h = refl
 fields-kept p (e ∷ es) x h = by (p e.0) (is_same_id x e.0) refl refl (fields-kept p es x h) where
@@ -85,7 +85,7 @@ fields-found (e ∷ es) x = by (is_same_id x e.0) (fields-found es x) where
   by true rest = refl
   by false rest = rest
 
--- an entry that is in the stream is told as it was given
+-- an entry that is in the stream is reported as it was added
 tells-entry : (changes : List StreamEvent) (x : Id) → has_id (ids_of (present_entries changes)) x ≡ true → TellsEntry (added_in changes) x (entry_reply (present_entries changes) x)
 tells-entry changes x h = by (fields_at (present_entries changes) x) refl where
   stays : is_present changes x ≡ true
@@ -99,7 +99,7 @@ tells-entry changes x h = by (fields_at (present_entries changes) x) refl where
     ap (λ (f : Option (List Field)). array (id_reply x ∷ option_map_or (λ fs. array (flat_map field_replies fs)) f NullArray ∷ [])) e,
   )
 
--- one that has left it, by the null array
+-- one that has left it is reported with the null array
 tells-null : (changes : List StreamEvent) (x : Id) → has_id (ids_of (present_entries changes)) x ≡ false → entry_reply (present_entries changes) x ≡ array (id_reply x ∷ NullArray ∷ [])
 tells-null changes x h = by (fields_at (present_entries changes) x) refl where
   by : (fields : Option (List Field)) → fields_at (present_entries changes) x ≡ fields → entry_reply (present_entries changes) x ≡ array (id_reply x ∷ NullArray ∷ [])
@@ -120,7 +120,7 @@ tells-new : (key : List ℕ) (changes : List StreamEvent) (xs : List Id) → Are
 tells-new key changes [] among = refl
 tells-new key changes (x ∷ xs) among = (map (entry_reply (present_entries changes)) (x ∷ xs), refl, tells-entries changes (x ∷ xs) among)
 
--- a claim tells what it takes
+-- a claim reports what it takes
 abbrev TakenIs : Bool → List (Id × List Field) → List Id → Reply → Type 0
 TakenIs just_id given ids answer = (told : List Reply) × (answer ≡ array told) × TellsTaken just_id given ids told
 
@@ -140,9 +140,9 @@ taken-among es present now rule ids x h =
     let taken = first_of (is_taken es present now rule x) (has_id ids x) (sym (has_id-where (is_taken es present now rule) ids x) ∙ h) in
     second_of (is_idle now rule (row_at es x)) (has_id present x) taken
 
--- ---- a group that is there
+-- ---- a group that exists
 
--- key and group are there, with their lives
+-- key and group exist, with their lives
 pub record IsThere (c : Content) (past : History) (name group : List ℕ) : Type 0 where
   pub key : KeyState
   pub changes : List StreamEvent
@@ -183,7 +183,7 @@ there c past name group is is_open = by (get c name) (key_life past name) refl r
 
 -- ---- claims
 
--- without the group there is nothing to say
+-- without the group nothing is reported
 missing : (c : Content) (past : History) (name group : List ℕ) → IsContent c past → is_some (group_life past name group) ≡ false → group_in (get c name) group ≡ None
 missing c past name group is gone = by (get c name) (key_life past name) (is name) where
   within : (s : Option GroupState) (l : Option GroupLife) → is_some l ≡ false → GroupHolds s l → s ≡ None
@@ -197,7 +197,7 @@ missing c past name group is gone = by (get c name) (key_life past name) (is nam
   by (Some key) (Some changes) holds = within (get key.groups group) (group_life past name group) gone (holds.1 group)
   by (Some key) None holds = absurd holds
 
--- what XCLAIM tells
+-- what XCLAIM reports
 told-claim : (c : Content) (past : History) (now : ℕ) (name group consumer : List ℕ) (rule : ClaimRule) (ids : List Id) (t : IsThere c past name group)
     → TakenIs rule.just_id (added_at past name) (scan_at past now name group (claim consumer rule ids)).claim.take
     (taken_reply rule.just_id t.key.stream.entries (claim_by_ids t.state.rows.entries (ids_of t.key.stream.entries) now rule ids).take)
@@ -206,7 +206,7 @@ told-claim c past now name group consumer rule ids t =
     (tells-taken rule.just_id t.changes (claim_by_ids (rows t.life.start t.life.events) (ids_of (present_entries t.changes)) now rule ids).take
     (taken-among (rows t.life.start t.life.events) (ids_of (present_entries t.changes)) now rule (without_repeats ids)))
 
--- what XAUTOCLAIM tells
+-- what XAUTOCLAIM reports
 told-scan : (c : Content) (past : History) (now : ℕ) (name group consumer : List ℕ) (rule : ClaimRule) (start : Id) (limit : ℕ) (t : IsThere c past name group)
     → TakenIs rule.just_id (added_at past name) (scan_at past now name group (auto_claim consumer rule start limit)).claim.take
     (taken_reply rule.just_id t.key.stream.entries (scan_of t.state.rows.entries (ids_of t.key.stream.entries) now rule start limit).claim.take)
@@ -224,7 +224,7 @@ scan-is c past now name group consumer rule start limit t = rw (t.changes_are, t
 
 -- ---- reads
 
--- what a read with `>` delivers in a group that is there
+-- the entries that a read with `>` delivers in a group that exists
 new_ids-there : (c : Content) (past : History) (read : ReadGroupCommand) (name : List ℕ) (t : IsThere c past name read.group)
     → has_all_groups (group_life past) (ReadGroup read) ≡ true → reads_new_entries (ReadGroup read) name ≡ true
     → ids_delivered_by past (ReadGroup read) name read.group ≡ new_ids read.limit (cursor t.life.start t.life.events) (ids_of (present_entries t.changes))
@@ -273,7 +273,7 @@ module _ (past : History) (key group : List ℕ) (life : GroupLife) (is : group_
       past_from : List Id
       past_from = filter (λ y. is_below from y) (ids_of_consumer consumer (rows life.start life.events))
 
--- one read of those that are left: its key and its group are as they were before the event
+-- one of the reads that are left: its key and its group are as they were before the event
 told-read : (c next : Content) (past : History) (read : ReadGroupCommand) (one : ReadOne) → IsThere c past one.key read.group → get next one.key ≡ get c one.key
     → has_all_groups (group_life past) (ReadGroup read) ≡ true → (is_new one.from ≡ true → reads_new_entries (ReadGroup read) one.key ≡ true)
     → TellsRead past read one.key one.from
@@ -349,7 +349,7 @@ told-add past c now add is =
 
 -- ---- numbers
 
--- a number of what goes, where no more goes than was there
+-- the number of removed ones, if no more are removed than there were
 tells-fewer : (before after : ℕ) → after ≤ before → before - after + after ≡ before
 tells-fewer before after fewer = omega (arith, fewer)
 
@@ -384,7 +384,7 @@ told-length past c name is = ap Int (by (get c name) (key_life past name) (is na
   by (Some key) None holds = absurd holds
   by (Some key) (Some changes) holds = ap (λ (s : StreamState). length s.entries) holds.0 ∙ sym (ids-length (present_entries changes))
 
--- how many an acknowledgement settles
+-- the number of entries that an acknowledgement settles
 told-ack : (past : History) (c : Content) (now : ℕ) (name group : List ℕ) (ids : List Id) → IsContent c past
     → TellsFewer (pending_count name group) past (now, Ack name group ids) (reply c now (Ack name group ids))
 told-ack past c now name group ids is = (_, refl, by (is_some (group_life past name group)) refl) where

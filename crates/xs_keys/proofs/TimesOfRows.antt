@@ -1,4 +1,4 @@
--- Time and count of a row are those of the last event that touched it.
+-- The time and the count of a row are those of the last event that touched it.
 use Rattle.std.proofs.Common.{◌≡◌, ℕ, Bool, true, false, not, cond, ◌&&◌, ◌||◌, List, [], ◌∷◌, Option, Some, None}
 use Rattle.std.proofs.Common.{option_and_then, is_some, ◌⊎◌, inl, inr, sym, ap, subst, ◌∙◌, refl}
 use Rattle.xs_group.specs.declared.claims.Claim.{Claim}
@@ -34,7 +34,7 @@ has-some : (row : RowState) (time count : ℕ) → Has (Some row) time count →
 unfolding Has
 has-some row time count h = h row refl
 
--- whether an ask touches an id, over the cursor and the rows that it meets
+-- whether an ask touches an id, from the cursor and the rows that it meets
 asked_touch : GroupAsk → ℕ → List Id → Id → List (Id × RowState) → Id → Bool
 asked_touch ask now present a es x =
     ((reads_without_noack ask && has_id (new_ids_of_ask ask present a) x) || has_id (claim_of_ask ask now present es).take x)

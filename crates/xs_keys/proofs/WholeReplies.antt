@@ -1,4 +1,4 @@
--- The replies to commands are whole: no array says that it has more or fewer items than it has.
+-- The replies to commands are complete: the header of no array gives more or fewer items than the array has.
 use Rattle.std.proofs.Common.{ℕ, ◌-◌, codes, decimal, Bool, true, false, if◌then◌else◌, List, [], ◌∷◌, ◌++◌, map, Option, Some, None}
 use Rattle.xs_stream.specs.StreamContent.{StreamState}
 use Rattle.xs_resp.specs.WholeReplies.{IsWholeReply, AreWhole}

@@ -1,4 +1,4 @@
--- The replies to XINFO STREAM with FULL are whole.
+-- The replies to XINFO STREAM with FULL are complete.
 use Rattle.std.proofs.Common.{ℕ, codes, List, [], ◌∷◌, ◌++◌, map, length, Option, Some, None}
 use Rattle.xs_stream.specs.StreamContent.{StreamState}
 use Rattle.xs_resp.specs.WholeReplies.{IsWholeReply, AreWhole}

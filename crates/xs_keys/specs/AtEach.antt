@@ -1,4 +1,4 @@
--- What holds along a list of events that has the newest first: at each event, and at each time.
+-- Properties of a list of events that has the newest first: at each event, and at each time.
 use Rattle.std.specs.Prelude.{◌≡◌, List, ◌∷◌, ◌++◌}
 
 module _ {E : Type 0} where
@@ -7,6 +7,6 @@ module _ {E : Type 0} where
   AtEach events Holds =
       (later : List E) (event : E) (earlier : List E) → events ≡ later ++ event ∷ earlier → Holds earlier event
 
-  -- Holds is true at each time, of the events up to then
+  -- Holds is true at each time, for the events up to then
   abbrev pub AtEachTime : List E → (List E → Type 0) → Type 0
   AtEachTime events Holds = (later earlier : List E) → events ≡ later ++ earlier → Holds earlier

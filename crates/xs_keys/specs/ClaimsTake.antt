@@ -11,12 +11,12 @@ use Rattle.xs_keys.specs.TimesAndCounts.{time_of}
 use Rattle.xs_keys.specs.Event.{Bytes, PendingEntries}
 use Rattle.xs_keys.specs.AtEach.{AtEach}
 
--- the least idle time that is asked for
+-- the least idle time of a claim
 abbrev pub least_idle : GroupAsk → ℕ
 least_idle ask = option_map_or (λ rule. rule.min_idle) (rule_of ask) 0
 
--- a claim may take an entry that has an owner, is in the stream, and has been idle for as long as the claim asks; the
--- time that it got last counts, and an earlier claim with IDLE may have set that back
+-- a claim may take an entry that has an owner, is in the stream, and has been idle for as long as the claim requires;
+-- the time that it got last counts, which an earlier claim with IDLE may have set back
 pub record MayBeTaken (start : Id) (past : List GroupEvent) (event : GroupEvent) (x : Id) : Type 0 where
   pub owned : is_some (owner start past x) ≡ true
   pub present : has_id event.present x ≡ true
@@ -41,23 +41,23 @@ is_from_start _ x = false
 abbrev pub passes : Id → Id → Bool
 passes cursor x = is_same_id cursor zero_id || is_below x cursor
 
--- an XAUTOCLAIM that meets these rows scans the entry: it lies at its start or past it, and the cursor that it returns
+-- an XAUTOCLAIM that meets these rows scans the entry: it is at its start or above it, and the cursor that it returns
 -- passes it
 abbrev pub is_scanned : GroupEvent → PendingEntries → Id → Bool
 is_scanned event rows x = is_from_start event.ask x && passes (scan_end_of_event event rows) x
 
--- the COUNT of a scan: as many entries as it may take or remove
+-- the COUNT of a scan: the most entries that it takes or removes
 abbrev pub scan_limit : GroupAsk → ℕ
 scan_limit (auto_claim consumer rule start limit) = limit
 scan_limit _ = 0
 
--- a scan that meets these rows may stop: it takes and removes as many as it may, or it has scanned ten times as many
+-- a scan that meets these rows may stop: it takes and removes its COUNT, or it has scanned ten times as many
 abbrev pub MayStop : GroupEvent → PendingEntries → Type 0
 MayStop event rows =
     (scan_limit event.ask ≤ length (claim_of_event event rows).take + length (claim_of_event event rows).removed)
     ⊎ (10 * scan_limit event.ask ≤ length (filter (λ x. is_scanned event rows x) (map (λ e. e.0) rows)))
 
--- a scan takes and removes no more than its COUNT
+-- a scan takes and removes at most its COUNT
 abbrev pub IsWithinCount : GroupEvent → PendingEntries → Type 0
 IsWithinCount event rows =
     (consumer : Bytes) (rule : ClaimRule) (start : Id) (limit : ℕ) → event.ask ≡ auto_claim consumer rule start limit
@@ -81,8 +81,8 @@ pub record ClaimsWhatIsAsked (start : Id) (past : List GroupEvent) (event : Grou
       is_asked_for event (rows start past) x ≡ true → MayBeRemoved start past event x
       → is_removed_by_claim start past event x ≡ true
 
--- a claim takes and removes what it asks for, each entry once; a scan takes and removes no more than its COUNT, and
--- goes to the end of the rows or as far as it has to
+-- a claim takes and removes what it asks for, each entry once; a scan takes and removes at most its COUNT, and goes to
+-- the end of the rows or as far as it has to
 pub record ClaimIsExact (start : Id) (past : List GroupEvent) (event : GroupEvent) : Type 0 where
   pub as_asked : (x : Id) → ClaimsWhatIsAsked start past event x
   pub takes_once : AreDistinct (claim_of_event event (rows start past)).take

@@ -1,4 +1,4 @@
--- Codes of what a keyspace is seen as, by which a proof tells its values apart.
+-- Codes of the values as which contracts see a keyspace, by which a proof distinguishes them.
 use Rattle.std.specs.Prelude.{ℕ, List, refl}
 use Rattle.xs_bytes.specs.SortedMap.{NameMap}
 use Rattle.xs_bytes.specs.MapCode.{coded_map}

@@ -1,4 +1,4 @@
--- What holds of each content that a history leaves: it is consistent.
+-- What is true of each content of a history: it is consistent.
 use Rattle.std.specs.Prelude.{◌≡◌, Some}
 use Rattle.xs_stream.specs.ConsistentStream.{IsConsistentStream}
 use Rattle.xs_group.specs.ConsistentGroup.{IsConsistentGroup}

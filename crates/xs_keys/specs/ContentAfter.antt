@@ -1,4 +1,4 @@
--- The content that each command leaves. (The pages of the commands.)
+-- The content after each command. (The pages of the commands.)
 use Rattle.std.specs.Prelude.{ℕ, List, Option, Some, None, Bool, [], ◌∷◌, ◌++◌, option_and_then, Result, Ok, Err}
 use Rattle.std.specs.Prelude.{is_some, if◌then◌else◌}
 use Rattle.xs_keys.specs.Terms.{list_all, option_or, option_map_or, get, Id, StreamState, ids_of, GroupState, Command}
@@ -21,7 +21,7 @@ use Rattle.xs_keys.specs.Content.{KeyState, Content}
 abbrev pub new_key : KeyState
 new_key = record { stream = new_stream; groups = empty }
 
--- the key, or a new one if it is missing and may be made
+-- the key, or a new one if it is missing and may be created
 abbrev pub key_or_new : Bool → Option KeyState → Option KeyState
 key_or_new make key = option_or key (if make then Some new_key else None)
 
@@ -41,7 +41,7 @@ stream_after (trim_entries trim) stream = record stream { entries = entries_afte
 abbrev pub key_after : StreamEvent → KeyState → KeyState
 key_after event key = record key { stream = stream_after event key.stream }
 
--- the content with the stream of a key after an event; as it was if there is no key
+-- the content with the stream of a key after an event; unchanged if there is no key
 abbrev pub after_stream_event : Content → Bytes → StreamEvent → Option KeyState → Content
 after_stream_event content name event key = option_map_or (λ k. insert content name (key_after event k)) key content
 
@@ -67,14 +67,14 @@ group_after now present (auto_claim consumer rule start limit) group =
 abbrev pub with_group : KeyState → Bytes → GroupState → KeyState
 with_group key name group = record key { groups = insert key.groups name group }
 
--- the content with a group of a key after an ask; as it was if one of them is missing
+-- the content with a group of a key after an ask; unchanged if one of them is missing
 abbrev pub after_ask : Content → ℕ → Bytes → Bytes → GroupAsk → Content
 after_ask content now name group_name ask =
     let with_asked : KeyState → GroupState → Content = λ key group.
     insert content name (with_group key group_name (group_after now (ids_of key.stream.entries) ask group)) in
     option_map_or (λ key. option_map_or (with_asked key) (get key.groups group_name) content) (get content name) content
 
--- the content with a new group of a key; as it was if the group is there
+-- the content with a new group of a key; unchanged if the group exists
 abbrev pub after_create : Content → GroupCreateCommand → Option KeyState → Content
 after_create content create None = content
 after_create content create (Some key) =
@@ -88,7 +88,7 @@ group_in key group_name = option_and_then (λ k. get k.groups group_name) key
 abbrev pub entries_in : Option KeyState → Entries
 entries_in key = option_map_or (λ k. k.stream.entries) key []
 
--- each key and group that a read names is there; without one it is refused as a whole
+-- each key and group that a read names exists; if one is missing the whole read is refused
 abbrev pub has_all_groups_in : Content → ReadGroupCommand → Bool
 has_all_groups_in content read = list_all (λ one. is_some (group_in (get content one.key) read.group)) read.reads
 

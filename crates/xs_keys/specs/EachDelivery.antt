@@ -16,8 +16,8 @@ pub record HadItsTurn (start : Id) (events : List GroupEvent) (x : Id) : Type 0 
   pub is_turn : is_turn_of start earlier event x ≡ true
   pub delivered_if_present : has_id (delivered_ids start events) x ≡ has_id event.present x
 
--- a read of new entries delivers as many as it asks for, or leaves no entry in the stream past the cursor; and never
--- more than it asks for
+-- a read of new entries delivers as many as it asks for, or leaves no entry in the stream above the cursor; and it
+-- never delivers more than it asks for
 abbrev pub DeliversInFull : Id → List GroupEvent → Type 0
 DeliversInFull start events = AtEach events (λ earlier event.
     (consumer : Bytes) (limit : Option ℕ) (noack : Bool) → event.ask ≡ read_new consumer limit noack
@@ -25,7 +25,7 @@ DeliversInFull start events = AtEach events (λ earlier event.
     ⊎ ((x : Id) → has_id event.present x ≡ true → is_below (cursor start (event ∷ earlier)) x ≡ false))
     × ((n : ℕ) → limit ≡ Some n → length (new_ids_of_event event (cursor start earlier)) ≤ n))
 
--- new deliveries: in id order and each once, past the start, exactly the entries in the stream at their turn, and as
+-- new deliveries: in id order and each once, above the start, exactly the entries in the stream at their turn, and as
 -- many as are asked for
 pub record DeliversNew (life : GroupLife) : Type 0 where
   pub ascend : Ascends (delivered_ids life.start life.events)

@@ -26,7 +26,8 @@ OwnedUntilSettled start events =
     → is_made_pending_by start earlier event x ≡ true
     → is_some (owner start events x) ≡ not (is_settled_in start later (event ∷ earlier) x)
 
--- the owner after one event: the same, or none since the event settles the entry, or the consumer whose claim takes it
+-- the owner after one event: the same, or none because the event settles the entry, or the consumer whose claim takes
+-- it
 abbrev pub OwnerAfter : Id → List GroupEvent → GroupEvent → Id → Bytes → Type 0
 OwnerAfter start past event x name =
     (owner start (event ∷ past) x ≡ Some name)
@@ -40,7 +41,7 @@ AfterNoOwner start past event x =
     ⊎ ((is_made_pending_by start past event x ≡ true) × (owner start (event ∷ past) x ≡ consumer_of event.ask))
 
 -- the owner changes only by a claim, and comes only by a delivery; and what is delivered without NOACK, or taken by a
--- claim, belongs to the consumer who asked
+-- claim, belongs to the consumer that asked
 abbrev pub ChangesByClaims : Id → List GroupEvent → Type 0
 ChangesByClaims start events = AtEach events (λ earlier event.
     (x : Id)

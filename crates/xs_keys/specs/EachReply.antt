@@ -8,8 +8,8 @@ use Rattle.xs_keys.specs.Step.{takes_memory, is_error, IsUnchangedIfRefused}
 use Rattle.xs_keys.specs.RepliesTell.{IsTold}
 use Rattle.xs_keys.specs.Event.{Event, History, event_moment, event_command}
 
--- an event of the history: its command is well formed, and its reply is the model's, at the content of the events
--- before it; what the reply tells is what was done; and what is refused changes nothing
+-- an event of the history: its command is well formed, and its reply is the model's, at the content after the events
+-- before it; what the reply reports is what was done; and what is refused changes nothing
 pub record IsReplied (past : History) (now : ℕ) (command : Command) (answer : Reply) : Type 0 where
   pub formed : IsWellFormed command
   pub content : Content
@@ -26,7 +26,7 @@ pub record IsLeftOut (past : History) (now : ℕ) (command : Command) (answer : 
   pub no_other : is_error (reply content now command) ≡ false
   pub answer_is : answer ≡ Error Memory
 
--- over a past, at a moment, a command is answered so, and this history follows: the event joins it, or is left out
+-- over a past, at a moment, a command gets this reply, and this history follows: the event joins it, or is left out
 abbrev pub JoinsOrIsLeftOut : History → ℕ → Command → Reply → History → Type 0
 JoinsOrIsLeftOut past now command answer next =
     (IsReplied past now command answer × (next ≡ (now, command) ∷ past))

@@ -1,4 +1,4 @@
--- What a command does to an entry, by its words, and for trims by the ids in the stream. (Redis, XADD, XDEL, XTRIM,
+-- The effect of a command on an entry, by its words, and for trims by the ids in the stream. (Redis, XADD, XDEL, XTRIM,
 -- XGROUP, XREADGROUP, XACK, XCLAIM, XAUTOCLAIM and DEL.)
 use Rattle.std.specs.Prelude.{◌+◌, Bool, false, ◌&&◌, ◌||◌, List, nat_le, Option, Some, None}
 use Rattle.xs_stream.specs.StreamContent.{count_above}
@@ -68,7 +68,7 @@ removes_consumer (ConsumerDelete k g consumer) key group name =
     is_same_group key group k g && is_same_name name consumer
 removes_consumer _ key group name = false
 
--- the command may add an entry to the stream, or make the group
+-- the command may add an entry to the stream, or create the group
 abbrev pub may_begin_job : Command → Bytes → Bytes → Bool
 may_begin_job (Add add) key group = is_same_name key add.key
 may_begin_job (GroupCreate create) key group = is_same_group key group create.key create.group

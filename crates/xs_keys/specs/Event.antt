@@ -1,4 +1,4 @@
--- The types that the model is written in: events and histories, and what keys and groups hold.
+-- The types in which the model is written: events and histories, and the contents of keys and groups.
 use Rattle.std.specs.Prelude.{ℕ, Bool, List, ◌&&◌}
 use Rattle.xs_stream.specs.declared.id.Id.{Id}
 use Rattle.xs_stream.specs.declared.field.Field.{Field}

@@ -1,4 +1,4 @@
--- What clients see, as the Redis documentation of streams and of each command tells it: computed examples.
+-- What clients see, by the Redis documentation of streams and of each command: computed examples.
 use Rattle.std.specs.Prelude.{[], ◌∷◌, codes}
 use Rattle.xs_resp.specs.declared.fault.Fault.TheVariants.{Arity, BadId, Busy, Exhausted, NoGroup, NoKey, NotInteger}
 use Rattle.xs_resp.specs.declared.fault.Fault.TheVariants.{SmallId, Syntax, UnknownCommand, Unsupported, ZeroId}
@@ -20,7 +20,7 @@ pub record Streams : Type 0 where
       at 900 (codes "XLEN s") (Int 3) ∷
       at 900 (codes "XRANGE s - + COUNT 1") (array (entry 1000 0 ∷ [])) ∷
       [])
-  -- the sequence alone, the zero id, a stream that may not be made
+  -- only a sequence, the zero id, a stream that may not be created
   pub sequences_and_the_zero_id : IsPlayed (
       at 5 (codes "XADD t 0-* f v") (id 0 1) ∷
       at 5 (codes "XADD u 0-0 f v") (Error ZeroId) ∷
@@ -126,7 +126,7 @@ pub record Deliveries : Type 0 where
       at 10 (codes "XADD s MINID 12 11-0 f v") (id 11 0) ∷
       at 10 (codes "XLEN s") (Int 0) ∷
       [])
-  -- a deleted entry is passed over at its turn
+  -- a deleted entry is skipped at its turn
   pub a_deleted_entry_is_passed_over : IsPlayed (
       at 1 (codes "XADD s 1-0 f v") (id 1 0) ∷
       at 1 (codes "XADD s 2-0 f v") (id 2 0) ∷
@@ -138,7 +138,7 @@ pub record Deliveries : Type 0 where
       at 2 (codes "XREADGROUP GROUP g c COUNT 1 STREAMS s >") (array (stream (codes "s") (entry 3 0 ∷ []) ∷ [])) ∷
       at 2 (codes "XREADGROUP GROUP g c COUNT 1 STREAMS s >") NullArray ∷
       [])
-  -- where a group starts
+  -- the start of a group
   pub where_a_group_starts : IsPlayed (
       at 1 (codes "XADD s 1-0 f v") (id 1 0) ∷
       at 1 (codes "XADD s 2-0 f v") (id 2 0) ∷
@@ -272,7 +272,7 @@ pub record Claims : Type 0 where
       at 100 (codes "XREADGROUP GROUP g c STREAMS s >") (array (stream (codes "s") (entry 1 0 ∷ entry 2 0 ∷ []) ∷ [])) ∷
       at 110 (codes "XAUTOCLAIM s g d 10 2-0") (array (id 0 0 ∷ array (entry 2 0 ∷ []) ∷ array [] ∷ [])) ∷
       [])
-  -- JUSTID tells the ids alone, and takes no entry that is gone
+  -- JUSTID reports only ids, and takes no entry that is gone
   pub claims_of_gone_entries_by_their_ids : IsPlayed (
       at 1 (codes "XADD s 1-0 f v") (id 1 0) ∷
       at 1 (codes "XADD s 2-0 f v") (id 2 0) ∷
@@ -339,7 +339,7 @@ pub record Lives : Type 0 where
       at 3 (codes "XGROUP DESTROY s g") (Error NoKey) ∷
       at 3 (codes "DEL") (Error Arity) ∷
       [])
-  -- a group that is there already stays as it is
+  -- a group that exists already is unchanged
   pub a_group_stays : IsPlayed (
       at 1 (codes "XADD s 1-0 f v") (id 1 0) ∷
       at 1 (codes "XGROUP CREATE s g 0") ok ∷
@@ -349,7 +349,7 @@ pub record Lives : Type 0 where
       at 3 (codes "XACK s g 1-0") (Int 1) ∷
       [])
 
--- what is left when the last one of something goes
+-- what is left after the last one of something is removed
 pub record Remains : Type 0 where
   -- a stream stays without an entry, with its top
   pub a_stream_without_an_entry : IsPlayed (
@@ -435,7 +435,7 @@ pub record Remains : Type 0 where
       at 2 (codes "XGROUP CREATECONSUMER s g d") (Int 0) ∷
       at 2 (codes "XGROUP CREATECONSUMER s g c") (Int 1) ∷
       [])
-  -- what asks a missing key doesn't make it
+  -- a command for a missing key doesn't create it
   pub no_key_by_an_ask : IsPlayed (
       at 1 (codes "XDEL s 1") (Int 0) ∷
       at 1 (codes "XTRIM s MAXLEN 0") (Int 0) ∷
@@ -529,7 +529,7 @@ pub record Reports : Type 0 where
       [])
 
 pub record Edges : Type 0 where
-  -- a count stops; RETRYCOUNT goes before JUSTID; IDLE past now is now; ids in the order written
+  -- a count stops at the greatest one; RETRYCOUNT goes before JUSTID; IDLE after now is now; ids in the order written
   pub counts_stop : IsPlayed (
       at 1 (codes "XADD s 1-0 f v") (id 1 0) ∷
       at 1 (codes "XADD s 2-0 f v") (id 2 0) ∷

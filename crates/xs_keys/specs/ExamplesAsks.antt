@@ -1,6 +1,7 @@
 -- What the lines of a whole history ask of one group, and of no other, by looking back over it: pending rows and
 -- consumers; and what last touched an entry. As a real Redis 7.0 lists it after the same lines (XREADGROUP, XACK,
 -- XCLAIM, XAUTOCLAIM, XGROUP CREATECONSUMER and DELCONSUMER, XPENDING). Own: a read of own entries counts, and each
+-- accepted read or claim adds its consumer.
 -- accepted read or claim brings its consumer.
 use Rattle.std.specs.Prelude.{◌≡◌, ℕ, Bool, true, false, List, [], ◌∷◌, codes, Option, Some, None}
 use Rattle.xs_stream.specs.declared.id.Id.{Id}
@@ -21,8 +22,8 @@ use Rattle.xs_keys.specs.ExamplesGroupEvents.{start, event, event_without, read_
 use Rattle.xs_keys.specs.ExamplesGroupEvents.{claim_by_b}
 use Rattle.xs_keys.specs.ExamplesGroupEvents.{any_idle_time}
 
--- the consumer a has read 2-0 and 3-0 of the group g at 5; another group h of the same key starts where it did, and so
--- does a group g of the key t; behind them these lines
+-- the consumer a has read 2-0 and 3-0 of the group g at 5; another group h of the same key starts at the same id, and
+-- so does a group g of the key t; after them these lines
 abbrev pub read_and : List (List ℕ) → List (List ℕ)
 read_and lines =
     group_and (codes "XREADGROUP GROUP g a STREAMS s >" ∷ codes "XGROUP CREATE s h 1" ∷ codes "XADD t 2-0 f v"

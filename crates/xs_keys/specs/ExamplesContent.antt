@@ -18,7 +18,7 @@ use Rattle.xs_keys.specs.Content.{KeyState, GroupHolds, KeyHolds}
 abbrev pub changes : List StreamEvent
 changes = add_entry 5 (add.Exact (at 2 0)) (field (codes "f") (codes "v") ∷ []) None ∷ []
 
--- a key with this top and the one entry 2-0, and no group
+-- a key with this top and the only entry 2-0, and no group
 abbrev pub key : Id → KeyState
 key top =
     record {
@@ -38,7 +38,7 @@ empty_key = record { stream = record { top = at 2 0; entries = []; added = 1; de
 abbrev pub no_group : List ℕ → Option GroupLife
 no_group name = None
 
--- a group that starts behind 1-0, in which these events came
+-- a group that starts after 1-0, with these events
 abbrev pub life : List GroupEvent → GroupLife
 life events = record { start = at 1 0; events = events }
 

@@ -1,7 +1,6 @@
--- What the events of a group say by looking back, by examples: who has an entry, what is pending, and whose turn it
--- was.
--- As a real Redis 7.0 lists it after the same commands (XREADGROUP, XACK, XCLAIM, XAUTOCLAIM, XGROUP DELCONSUMER,
--- XPENDING). Own: a read of own entries counts, and each read or claim brings its consumer.
+-- A group by looking back over its events, by examples: who has an entry, what is pending, and whose turn it was. As a
+-- real Redis 7.0 lists it after the same commands (XREADGROUP, XACK, XCLAIM, XAUTOCLAIM, XGROUP DELCONSUMER, XPENDING).
+-- Own: a read of own entries counts, and each read or claim adds its consumer.
 use Rattle.std.specs.Prelude.{◌≡◌, ℕ, true, false, List, [], ◌∷◌, codes, Some, None}
 use Rattle.xs_stream.specs.declared.id.Id.{Id}
 use Rattle.xs_stream.specs.Examples.{at}
@@ -94,8 +93,8 @@ pub record Consumers : Type 0 where
   pub leaves : consumer_of (delete_consumer (codes "a")) ≡ Some (codes "a")
   pub nobody_acknowledges : consumer_of (acknowledge []) ≡ None
 
--- own: an event that gives a consumer nothing doesn't change its moment; a real Redis 7.0 takes that of each read and
--- claim
+-- own: an event that gives a consumer nothing doesn't change its moment; a real Redis 7.0 takes the moment of each read
+-- and claim
 pub record Moments : Type 0 where
   pub nobody_yet : seen_at start [] (codes "a") ≡ None
   pub of_a_read : seen_at start (read_by_a ∷ []) (codes "a") ≡ Some 100

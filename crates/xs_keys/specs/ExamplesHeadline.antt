@@ -1,6 +1,6 @@
--- The relations that the headline and the contracts are made of, by examples: each way in which an owner goes on, how a
--- life goes on with what an event delivers, what is an answer to an event, and how an addition and the making of a
--- group may end. (Redis, XREADGROUP, XACK, XCLAIM, XADD and XGROUP CREATE.)
+-- The relations of the headline and the contracts, by examples: each way in which an owner can change, how a life
+-- continues with what an event delivers, what is a reply to an event, and how an addition and the creation of a group
+-- can end. (Redis, XREADGROUP, XACK, XCLAIM, XADD and XGROUP CREATE.)
 use Rattle.std.specs.Prelude.{◌≡◌, ℕ, true, false, List, [], ◌∷◌, codes, Some, None, Ok, Err}
 use Rattle.std.specs.declared.alloc.AllocError.{AllocError}
 use Rattle.xs_bytes.specs.SortedMap.{empty, insert}

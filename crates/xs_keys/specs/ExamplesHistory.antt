@@ -1,5 +1,5 @@
--- What histories say of keys and groups by looking back, by examples of the Redis pages (Redis Streams, "Consumer
--- groups"; XADD, XDEL, XTRIM, DEL, XGROUP, XREADGROUP), as a real Redis 7.0 shows and delivers them after such lines.
+-- Keys and groups by looking back over histories, by examples of the Redis pages (Redis Streams, "Consumer groups";
+-- XADD, XDEL, XTRIM, DEL, XGROUP, XREADGROUP), as a real Redis 7.0 shows and delivers them after such lines.
 use Rattle.std.specs.Prelude.{◌≡◌, ℕ, ◌++◌, Bool, true, false, List, [], ◌∷◌, codes, Option, Some, None}
 use Rattle.std.specs.Prelude.{Result, Ok, Err}
 use Rattle.std.specs.Option.{option_map}
@@ -23,7 +23,7 @@ use Rattle.xs_keys.specs.Step.{takes_memory}
 use Rattle.xs_keys.specs.Life.{added_at}
 use Rattle.xs_keys.specs.RepliesTell.{scan_at}
 
--- an event, where the words say a command
+-- an event, if the words spell a command
 abbrev pub event : ℕ → Result Command Fault → History
 event now (Ok command) = (now, command) ∷ []
 event now (Err fault) = []
@@ -33,11 +33,11 @@ abbrev pub events : ℕ → List (List ℕ) → History
 events now [] = []
 events now (words ∷ lines) = events now lines ++ event now (command_of_words (line words))
 
--- what is said of the open life of the key s
+-- a function of the open life of the key s
 abbrev pub of_key : {A : Type 0} → List (List ℕ) → (List StreamEvent → A) → Option A
 of_key lines said = option_map said (key_life (events 5 lines) (codes "s"))
 
--- what is said of the open life of its group g
+-- a function of the open life of its group g
 abbrev pub of_group : {A : Type 0} → List (List ℕ) → (GroupLife → A) → Option A
 of_group lines said = option_map said (group_life (events 5 lines) (codes "s") (codes "g"))
 
@@ -56,11 +56,11 @@ cursor_of life = cursor life.start life.events
 abbrev pub starts_at : GroupLife → Id
 starts_at life = life.start
 
--- three entries, and these lines behind them
+-- three entries, and these lines after them
 abbrev pub three_and : List (List ℕ) → List (List ℕ)
 three_and lines = codes "XADD s 1-0 f v" ∷ codes "XADD s 2-0 g w h x" ∷ codes "XADD s 3-0 f v" ∷ lines
 
--- a group that starts behind the first of the three, and these lines
+-- a group that starts after the first of the three, and these lines
 abbrev pub group_and : List (List ℕ) → List (List ℕ)
 group_and lines = three_and (codes "XGROUP CREATE s g 1" ∷ lines)
 
@@ -118,7 +118,7 @@ pub record Groups : Type 0 where
       ∷ codes "XGROUP CREATE s g 0" ∷ []))
       cursor_of ≡ Some (at 0 0)
 
--- what is delivered behind these lines
+-- what is delivered after these lines
 abbrev pub delivered_in : List (List ℕ) → Option (List Id)
 delivered_in lines = of_group (group_and lines) ids_of_life
 
@@ -145,7 +145,7 @@ pub record Deliveries : Type 0 where
   pub the_cursor_with_noack :
       of_group (group_and (codes "XREADGROUP GROUP g a NOACK STREAMS s >" ∷ [])) cursor_of ≡ Some (at 3 0)
 
--- what the event of some words delivers behind those lines
+-- what the event of some words delivers after those lines
 abbrev pub new_of : History → List (List ℕ) → List ℕ → List ℕ → List Id
 new_of [] lines key group = []
 new_of (e ∷ es) lines key group = ids_delivered_by (events 5 lines) (event_command e) key group
@@ -174,7 +174,7 @@ pub record Events : Type 0 where
       delivers_behind (group_and []) (codes "XREADGROUP GROUP g a STREAMS s t > >") (codes "s") (codes "g") ≡ []
   pub none_by_another_command : delivers_behind (group_and []) (codes "XRANGE s - +") (codes "s") (codes "g") ≡ []
 
--- what the command of some words asks of memory
+-- whether the command of some words takes memory
 abbrev pub memory_for : History → Option Bool
 memory_for [] = None
 memory_for (e ∷ es) = Some (takes_memory (event_command e))
@@ -208,7 +208,7 @@ pub record Memory : Type 0 where
 abbrev pub any_idle_time : ClaimRule
 any_idle_time = record { min_idle = 0; when = time.Now; retry = None; just_id = false }
 
--- what replies tell
+-- what replies report
 pub record Told : Type 0 where
   pub all_that_was_given :
       ids_of (added_at (events 5 (three_and (codes "XDEL s 2-0" ∷ []))) (codes "s")) ≡ at 1 0 ∷ at 2 0 ∷ at 3 0 ∷ []

@@ -1,5 +1,5 @@
--- What is told of a content, by examples: the replies to XINFO, EXISTS, TYPE and DBSIZE, as a real Redis 7.0 gives them.
--- Where that says null, the lag is this server's own here (docs/COMMANDS.md).
+-- Inspections of a content, by examples: the replies to XINFO, EXISTS, TYPE and DBSIZE, as a real Redis 7.0 gives them.
+-- If that replies null, the lag is this server's own here (docs/COMMANDS.md).
 use Rattle.std.specs.Prelude.{ℕ, ◌+◌, List, [], ◌∷◌, ◌++◌, codes}
 use Rattle.xs_resp.specs.declared.fault.Fault.TheVariants.{MissingKey, NoGroup}
 use Rattle.xs_resp.specs.declared.reply.Simple.TheVariants.{Stream, Nothing}
@@ -8,7 +8,7 @@ use Rattle.xs_keys.specs.ReplyParts.{array}
 use Rattle.xs_keys.specs.Event.{Bytes}
 use Rattle.xs_keys.specs.PlayedLines.{PlayedLine, IsPlayed, at, ok, name, id, entry, stream}
 
--- a stream of three entries, of which the second is deleted; a group before them, one ahead of them, and one between them
+-- a stream of three entries, of which the second is deleted; a group before them, one after them, and one between them
 -- with a consumer that was given nothing
 abbrev pub before : List PlayedLine
 before =
@@ -29,14 +29,14 @@ both_read =
     at 9 (codes "XREADGROUP GROUP a b COUNT 1 STREAMS s >") (array (stream (codes "s") (entry 3 0 ∷ []) ∷ [])) ∷
     []
 
--- what is told of the size of a stream
+-- the part about the size of a stream
 abbrev pub size : ℕ → ℕ → List Reply
 size entries nodes =
     name (codes "length") ∷ Int entries
     ∷ name (codes "radix-tree-keys") ∷ Int nodes
     ∷ name (codes "radix-tree-nodes") ∷ Int (nodes + 1) ∷ []
 
--- what is told of its past
+-- the part about its past
 abbrev pub past : Reply → Reply → ℕ → Reply → List Reply
 past top deleted added first =
     name (codes "last-generated-id") ∷ top
@@ -44,14 +44,14 @@ past top deleted added first =
     ∷ name (codes "entries-added") ∷ Int added
     ∷ name (codes "recorded-first-entry-id") ∷ first ∷ []
 
--- what is told of its groups and its ends
+-- the part about its groups and its ends
 abbrev pub ends : ℕ → Reply → Reply → List Reply
 ends groups first last =
     name (codes "groups") ∷ Int groups
     ∷ name (codes "first-entry") ∷ first
     ∷ name (codes "last-entry") ∷ last ∷ []
 
--- what is told of the progress of a group
+-- the part about the progress of a group
 abbrev pub progress : Reply → Reply → ℕ → List Reply
 progress cursor read lag =
     name (codes "last-delivered-id") ∷ cursor
@@ -107,7 +107,7 @@ pub record Inspections : Type 0 where
       at 7 (codes "XINFO STREAM s")
       (array (size 2 1 ++ (past (id 3 0) (id 2 0) 3 (id 1 0) ++ ends 3 (entry 1 0) (entry 3 0)))) ∷
       []))
-  -- groups before, ahead of and between the entries
+  -- groups before, after and between the entries
   pub groups : IsPlayed (before ++ (
       at 7 (codes "XINFO GROUPS s")
       (array (group (codes "a") 0 0 (id 0 0) NullBulk 2 ∷ group (codes "h") 0 0 (id 9 0) NullBulk 0
@@ -156,7 +156,7 @@ pub record Inspections : Type 0 where
       (array (id 1 0 ∷ Int 7 ∷ Int 1 ∷ []) ∷ array (id 3 0 ∷ Int 9 ∷ Int 1 ∷ []) ∷ []) ∷ [])
       ∷ idle_groups) ∷ [])))) ∷
       [])))
-  -- which keys are there, and what they are
+  -- which keys exist, and their types
   pub keys : IsPlayed (
       at 1 (codes "XADD s 1-0 f v") (id 1 0) ∷
       at 1 (codes "XADD t 1-0 f v") (id 1 0) ∷

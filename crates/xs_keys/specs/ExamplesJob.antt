@@ -1,4 +1,4 @@
--- The life of a job by examples: each place, each arrow, and what is none; as a real Redis 7.0 lists pending entries
+-- The life of a job by examples: each place, each arrow, and what isn't one; as a real Redis 7.0 lists pending entries
 -- and delivers new ones after such lines. (Redis Streams, "Consumer groups"; XREADGROUP, XACK, XCLAIM, XAUTOCLAIM,
 -- XPENDING.)
 use Rattle.std.specs.Prelude.{◌≡◌, ℕ, Bool, List, [], ◌∷◌, codes, Option, Some, None}
@@ -22,7 +22,7 @@ use Rattle.xs_keys.specs.GroupAsk.{acknowledge}
 use Rattle.xs_keys.specs.Life.{StreamEvent, key_life}
 use Rattle.xs_keys.specs.GroupLife.{GroupLife, group_life}
 
--- where an entry of the key s stands for its group g behind these lines
+-- the place of an entry of the key s in its group g after these lines
 abbrev pub stands_behind : List (List ℕ) → Id → Option Place
 stands_behind lines x = place_after (events 5 lines) (codes "s") (codes "g") x
 
@@ -30,7 +30,7 @@ stands_behind lines x = place_after (events 5 lines) (codes "s") (codes "g") x
 abbrev pub two_and : List (List ℕ) → List (List ℕ)
 two_and lines = codes "XADD s 1-0 f v" ∷ codes "XADD s 2-0 f v" ∷ codes "XGROUP CREATE s g 0" ∷ lines
 
--- where the first of both stands then
+-- the place of the first of both then
 abbrev pub first_stands : List (List ℕ) → Option Place
 first_stands lines = stands_behind (two_and lines) (at 1 0)
 
@@ -118,7 +118,7 @@ pub record Places : Type 0 where
   pub of_a_group_made_again :
       first_stands (read_by_c ∷ codes "XGROUP DESTROY s g" ∷ codes "XGROUP CREATE s g 0" ∷ []) ≡ Some waiting
 
--- what each place is, of a group that starts at 1-0
+-- the meaning of each place, in a group that starts at 1-0
 pub record Standings : Type 0 where
   pub not_the_group_s : StandsAt (life []) (at 1 0 ∷ []) (at 1 0) before_start
   pub past_the_start : StandsAt (life []) (at 2 0 ∷ []) (at 2 0) before_start → ⊥
@@ -143,11 +143,11 @@ abbrev pub leads_by : History → List Id → Place → Place → Type 0
 leads_by [] present here there = ⊥
 leads_by (e ∷ es) present here there = HasArrow (event_command e) (codes "s") (codes "g") present (at 1 0) here there
 
--- so do these words, while it is in the stream
+-- these words do so, while it is in the stream
 abbrev pub LeadsIt : List ℕ → Place → Place → Type 0
 LeadsIt words here there = leads_by (event 5 (command_of_words (line words))) (at 1 0 ∷ []) here there
 
--- and these, once it was deleted
+-- and these do, after it was deleted
 abbrev pub LeadsDeleted : List ℕ → Place → Place → Type 0
 LeadsDeleted words here there = leads_by (event 5 (command_of_words (line words))) [] here there
 
@@ -169,7 +169,7 @@ pub record Arrows : Type 0 where
   pub by_a_claim_of_a_deleted_one : LeadsDeleted (codes "XCLAIM s g d 0 1-0") with_c settled
   pub by_a_scan_of_a_deleted_one : LeadsDeleted (codes "XAUTOCLAIM s g d 0 0") with_c settled
 
--- these are none
+-- these aren't arrows
 pub record NoArrows : Type 0 where
   pub another_deleted : LeadsIt (codes "XDEL s 2-0") waiting dropped → ⊥
   pub deleted_elsewhere : LeadsIt (codes "XDEL t 1-0") waiting dropped → ⊥
@@ -208,7 +208,7 @@ pub record NoArrows : Type 0 where
   pub settled_for_good : (words : List ℕ) (there : Place) → LeadsIt words settled there → ⊥
   pub never_the_group_s : (words : List ℕ) (there : Place) → LeadsIt words before_start there → ⊥
 
--- what a command of some words makes of the entry 1-0
+-- how a command of some words moves the entry 1-0
 abbrev pub goes_by : History → List Id → Option Place → Option Place → Type 0
 goes_by [] present here there = ⊥
 goes_by (e ∷ es) present here there = MovesAlong (event_command e) (codes "s") (codes "g") present (at 1 0) here there

@@ -1,5 +1,5 @@
--- What removes an entry from its stream, what may begin a job, and what makes a group, by examples; as a real Redis 7.0 lists entries and
--- groups after such lines. (Redis, XADD, XDEL, XTRIM, XGROUP CREATE and DEL.)
+-- What removes an entry from its stream, what may begin a job, and what creates a group, by examples; as a real Redis
+-- 7.0 lists entries and groups after such lines. (Redis, XADD, XDEL, XTRIM, XGROUP CREATE and DEL.)
 use Rattle.std.specs.Prelude.{◌≡◌, ℕ, Bool, true, false, List, [], ◌∷◌, codes, Option, Some, None}
 use Rattle.xs_stream.specs.declared.id.Id.{Id}
 use Rattle.xs_stream.specs.Examples.{at}
@@ -12,12 +12,12 @@ use Rattle.xs_keys.specs.ExamplesHistory.{event}
 use Rattle.xs_keys.specs.Effect.{may_begin_job}
 use Rattle.xs_keys.specs.Presence.{may_remove_entry, has_to_remove, has_to_create}
 
--- what holds of the first command
+-- whether a test is true of the first command
 abbrev pub of_first : History → (Command → Bool) → Bool
 of_first [] holds = false
 of_first (e ∷ es) holds = holds (event_command e)
 
--- what holds of the command that these words are
+-- whether a test is true of the command of these words
 abbrev pub of_words : List ℕ → (Command → Bool) → Bool
 of_words words holds = of_first (event 5 (command_of_words (line words))) holds
 

@@ -1,5 +1,5 @@
--- What the replies to additions, reads and claims tell, by examples: the replies that a real Redis 7.0 gives after the
--- same lines (XADD, XREADGROUP, XCLAIM, XAUTOCLAIM), and others that it doesn't give.
+-- What the replies to additions, reads and claims report, by examples: the replies that a real Redis 7.0 gives after
+-- the same lines (XADD, XREADGROUP, XCLAIM, XAUTOCLAIM), and others that it doesn't give.
 use Rattle.std.specs.Prelude.{ℕ, List, [], ◌∷◌, codes}
 use Rattle.xs_keys.specs.Event.{History, event_moment, event_command}
 use Rattle.xs_command.specs.Read.{command_of_words}
@@ -10,7 +10,7 @@ use Rattle.xs_keys.specs.RepliesTell.{IsTold}
 use Rattle.xs_keys.specs.PlayedLines.{name, id, entry, stream}
 use Rattle.xs_keys.specs.ExamplesHistory.{event, events, group_and}
 
--- the reply to the event of some words tells what was delivered or taken, behind those lines
+-- the reply to the event of some words reports what was delivered or taken, after those lines
 abbrev pub tells : History → List (List ℕ) → Reply → Type 0
 tells [] lines answer = ⊥
 tells (e ∷ es) lines answer = IsTold (events 5 lines) (event_moment e) (event_command e) answer
@@ -18,7 +18,7 @@ tells (e ∷ es) lines answer = IsTold (events 5 lines) (event_moment e) (event_
 abbrev pub Tells : List (List ℕ) → List ℕ → Reply → Type 0
 Tells lines words answer = tells (event 9 (command_of_words (line words))) lines answer
 
--- 2-0 as it was given
+-- 2-0 as it was added
 abbrev pub second : Reply
 second = array (id 2 0 ∷ array (name (codes "g") ∷ name (codes "w") ∷ name (codes "h") ∷ name (codes "x") ∷ []) ∷ [])
 

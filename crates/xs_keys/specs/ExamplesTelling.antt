@@ -1,4 +1,4 @@
--- How entries are told, and what the first of some ids are, by examples, those that are so and others that aren't.
+-- How entries are reported, and what the first of some ids are, by examples that are right and others that aren't.
 -- (XREADGROUP and XRANGE, "RESP2 Reply", with COUNT and without.)
 use Rattle.std.specs.Prelude.{◌≡◌, ℕ, true, List, [], ◌∷◌, codes, Option, Some, None}
 use Rattle.xs_stream.specs.Examples.{at}
@@ -7,13 +7,13 @@ use Rattle.xs_keys.specs.ReplyParts.{array}
 use Rattle.xs_keys.specs.Telling.{TellsEntry, TellsEntryOrNull, TellsEach, AreFirst}
 use Rattle.xs_keys.specs.PlayedLines.{name, id, entry}
 
--- 1-0 and 2-0 were given, each with its field
+-- 1-0 and 2-0 were added, each with its field
 abbrev pub given : List (Id × List Field)
 given =
     (at 1 0, record { name = codes "f"; value = codes "v" } ∷ [])
     ∷ (at 2 0, record { name = codes "g"; value = codes "w" } ∷ []) ∷ []
 
--- 2-0 as it is told
+-- 2-0 as it is reported
 abbrev pub second : Reply
 second = array (id 2 0 ∷ array (name (codes "g") ∷ name (codes "w") ∷ []) ∷ [])
 

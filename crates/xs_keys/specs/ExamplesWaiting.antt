@@ -1,5 +1,5 @@
--- Which reads find nothing, and how long a command may wait, by examples; as a real Redis 7.0 answers the same lines: the
--- null array, or another reply. (XREADGROUP; XREAD, "Blocking for data".)
+-- Which reads find nothing, and how long a command may wait, by examples; as a real Redis 7.0 replies to the same
+-- lines: the null array, or another reply. (XREADGROUP; XREAD, "Blocking for data".)
 use Rattle.std.specs.Prelude.{◌≡◌, ℕ, Bool, true, false, List, [], ◌∷◌, codes, Option, Some, None, Result, Ok, Err}
 use Rattle.xs_bytes.specs.SortedMap.{empty}
 use Rattle.xs_keys.specs.Terms.{Command, ReadGroup, Fault}
@@ -10,11 +10,11 @@ use Rattle.xs_keys.specs.PlayedLines.{reply_and_content}
 use Rattle.xs_keys.specs.ExamplesJob.{two_and, read_by_c}
 use Rattle.xs_keys.specs.Waiting.{block_of, finds_nothing, IsAnsweredNull, IsAnsweredOtherwise}
 
--- the command that these words are
+-- the command of these words
 abbrev pub said : List ℕ → Result Command Fault
 said words = command_of_words (line words)
 
--- the content behind these lines, all at one moment
+-- the content after these lines, all at one moment
 abbrev pub content_behind : Content → List (List ℕ) → Content
 content_behind content [] = content
 content_behind content (words ∷ lines) = content_behind (reply_and_content content 5 (said words)).1 lines
@@ -23,11 +23,11 @@ abbrev pub read_finds_nothing : Content → Result Command Fault → Option Bool
 read_finds_nothing content (Ok (ReadGroup read)) = Some (finds_nothing content read)
 read_finds_nothing content _ = None
 
--- whether the read of some words finds nothing behind these lines
+-- whether the read of some words finds nothing after these lines
 abbrev pub nothing_behind : List (List ℕ) → List ℕ → Option Bool
 nothing_behind lines words = read_finds_nothing (content_behind empty lines) (said words)
 
--- behind two entries of the key s, its group g from the beginning on, and these lines
+-- after two entries of the key s, its group g from the beginning on, and these lines
 abbrev pub nothing_in_two : List (List ℕ) → List ℕ → Option Bool
 nothing_in_two lines words = nothing_behind (two_and lines) words
 
@@ -36,7 +36,7 @@ abbrev pub empty_t : List ℕ
 empty_t = codes "XGROUP CREATE t g 0 MKSTREAM"
 
 pub record NothingNew : Type 0 where
-  -- past the cursor
+  -- above the cursor
   pub all_are_new : nothing_in_two [] read_by_c ≡ Some false
   pub one_is_new : nothing_in_two (codes "XREADGROUP GROUP g c COUNT 1 STREAMS s >" ∷ []) read_by_c ≡ Some false
   pub none_is_new : nothing_in_two (read_by_c ∷ []) (codes "XREADGROUP GROUP g d STREAMS s >") ≡ Some true
@@ -56,7 +56,7 @@ pub record NothingNew : Type 0 where
   pub all_deleted : nothing_in_two (codes "XDEL s 1-0 2-0" ∷ []) read_by_c ≡ Some true
   pub one_deleted : nothing_in_two (codes "XDEL s 1-0" ∷ []) read_by_c ≡ Some false
   pub all_trimmed : nothing_in_two (codes "XTRIM s MAXLEN 0" ∷ []) read_by_c ≡ Some true
-  -- where the group starts
+  -- the start of the group
   pub without_an_entry : nothing_in_two (empty_t ∷ []) (codes "XREADGROUP GROUP g c STREAMS t >") ≡ Some true
   pub from_the_top :
       nothing_in_two (codes "XGROUP CREATE s h $" ∷ []) (codes "XREADGROUP GROUP h c STREAMS s >") ≡ Some true
@@ -68,7 +68,7 @@ pub record NothingNew : Type 0 where
   pub new_in_the_first : nothing_in_two (empty_t ∷ []) (codes "XREADGROUP GROUP g c STREAMS s t > >") ≡ Some false
   pub new_in_neither :
       nothing_in_two (empty_t ∷ read_by_c ∷ []) (codes "XREADGROUP GROUP g c STREAMS s t > >") ≡ Some true
-  -- own entries are answered at once
+  -- own entries are returned at once
   pub own_entries : nothing_in_two (read_by_c ∷ []) (codes "XREADGROUP GROUP g c STREAMS s 0") ≡ Some false
   pub no_own_entries : nothing_in_two (read_by_c ∷ []) (codes "XREADGROUP GROUP g d STREAMS s 0") ≡ Some false
   pub new_ones_and_own : nothing_in_two (empty_t ∷ []) (codes "XREADGROUP GROUP g d STREAMS t s > 0") ≡ Some false
@@ -84,7 +84,8 @@ pub record NothingNew : Type 0 where
       ≡ Some false
   pub group_destroyed : nothing_in_two (read_by_c ∷ codes "XGROUP DESTROY s g" ∷ []) read_by_c ≡ Some false
 
--- what is said of the command of some words and of the content behind two entries, their group and these lines
+-- whether a relation is true of the command of some words and the content after two entries, their group and these
+-- lines
 abbrev pub holds_of : Content → Result Command Fault → (Content → Command → Type 0) → Type 0
 holds_of content (Ok command) Says = Says content command
 holds_of content (Err fault) Says = ⊥

@@ -1,4 +1,4 @@
--- What a command asks of a group, and what comes of it, from the ids in the stream, the cursor and the rows it meets.
+-- What a command asks of a group, and the result, from the ids in the stream, the cursor and the rows that it meets.
 -- (Redis, XREADGROUP, XACK, XGROUP CREATECONSUMER and DELCONSUMER, XCLAIM, XAUTOCLAIM.)
 use Rattle.std.specs.Prelude.{ℕ, Bool, false, not, List, [], Option, Some, None, option_and_then, if◌then◌else◌}
 use Rattle.xs_group.specs.declared.claims.Claim.{Claim}
@@ -27,13 +27,13 @@ new_ids_of_ask _ present cursor = []
 abbrev pub no_claim : Claim
 no_claim = record { take = []; removed = [] }
 
--- what an ask claims, from the rows it meets
+-- what an ask claims, from the rows that it meets
 abbrev pub claim_of_ask : GroupAsk → ℕ → List Id → PendingEntries → Claim
 claim_of_ask (claim consumer rule ids) now present rows = claim_by_ids rows present now rule ids
 claim_of_ask (auto_claim consumer rule start limit) now present rows = (scan_of rows present now rule start limit).claim
 claim_of_ask _ now present rows = no_claim
 
--- the cursor that a scan returns, from the rows it meets: where the next one starts, or 0-0 at their end
+-- the cursor that a scan returns, from the rows that it meets: where the next one starts, or 0-0 at their end
 abbrev pub scan_end_of_ask : GroupAsk → ℕ → List Id → PendingEntries → Id
 scan_end_of_ask (auto_claim consumer rule start limit) now present rows =
     (scan_of rows present now rule start limit).cursor

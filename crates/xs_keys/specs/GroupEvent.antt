@@ -18,11 +18,11 @@ pub record GroupEvent : Type 0 where
 abbrev pub new_ids_of_event : GroupEvent → Id → List Id
 new_ids_of_event event cursor = new_ids_of_ask event.ask event.present cursor
 
--- what an event claims, from the rows it meets
+-- what an event claims, from the rows that it meets
 abbrev pub claim_of_event : GroupEvent → PendingEntries → Claim
 claim_of_event event rows = claim_of_ask event.ask event.now event.present rows
 
--- where the next scan starts, from the rows it meets
+-- where the next scan starts, from the rows that it meets
 abbrev pub scan_end_of_event : GroupEvent → PendingEntries → Id
 scan_end_of_event event rows = scan_end_of_ask event.ask event.now event.present rows
 
@@ -53,7 +53,7 @@ abbrev pub rows_among : (Id → Option RowState) → List Id → PendingEntries
 rows_among row_of [] = []
 rows_among row_of (x ∷ xs) = with_some x (row_of x) (rows_among row_of xs)
 
--- the row of an id after these events, carried forward: each event changes it as `row_after_ask` says
+-- the row of an id after these events, carried forward: each event changes it by `row_after_ask`
 abbrev pub pending_row_at : Id → List GroupEvent → Id → Option RowState
 pending_row_at start [] x = None
 pending_row_at start (event ∷ past) x =
@@ -64,7 +64,7 @@ pending_row_at start (event ∷ past) x =
 abbrev pub rows : Id → List GroupEvent → PendingEntries
 rows start past = rows_among (λ x. pending_row_at start past x) (delivered_ids start past)
 
--- when a consumer was made, or the last event gave it something
+-- the moment when a consumer was created, or the last event gave it something
 abbrev pub seen_at : Id → List GroupEvent → Bytes → Option ℕ
 seen_at start [] name = None
 seen_at start (event ∷ past) name =

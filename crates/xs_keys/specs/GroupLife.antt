@@ -26,7 +26,7 @@ abbrev pub starting_id : GroupStart → Id → Id
 starting_id Top top = top
 starting_id (At id) top = id
 
--- a new life; none if the key is missing and isn't made
+-- a new life; none if the key is missing and isn't created
 abbrev pub new_life : GroupCreateCommand → Option KeyLife → Option GroupLife
 new_life create stream =
     let begin : Id → GroupLife = λ id. record { start = starting_id create.start id; events = [] } in
@@ -52,7 +52,7 @@ life_after_reads now present read key (one ∷ more) life =
     life_after_reads now present read key more next
 
 -- the life of a group after a command at a moment, from the lives of its key and its own before, and from whether all
--- groups that a read names are there; XGROUP CREATE leaves an open life as it is
+-- groups that a read names exist; XGROUP CREATE leaves an open life unchanged
 abbrev pub group_life_after :
     ℕ → Command → Bytes → Bytes → Bool → Option KeyLife → Option GroupLife → Option GroupLife
 group_life_after now (GroupCreate create) key group all_there stream life =
@@ -87,7 +87,8 @@ abbrev pub read_group_of : Command → Bytes
 read_group_of (ReadGroup read) = read.group
 read_group_of _ = []
 
--- each key and group that a command reads is there, by the open lives of groups; without one a read is refused whole
+-- each key and group that a command reads exists, by the open lives of groups; if one is missing the whole read is
+-- refused
 abbrev pub has_all_groups : (Bytes → Bytes → Option GroupLife) → Command → Bool
 has_all_groups lives command =
     list_all (λ one. is_some (lives one.key (read_group_of command))) (reads_of command)
@@ -121,7 +122,7 @@ ids_delivered_by past command key group =
     && has_all_groups (group_life past) command) in
     if reads then option_map_or new (group_life past key group) [] else []
 
--- the life of a group before and after an event that delivers these new ids: it continues, with just these ids more; or
+-- the life of a group before and after an event that delivers these new ids: it continues, with only these ids more; or
 -- it begins, and nothing is delivered; or none is open after the event, and nothing is delivered
 abbrev pub LifeContinues : Option GroupLife → List Id → Option GroupLife → Type 0
 LifeContinues (Some before) new (Some life) =

@@ -1,4 +1,4 @@
--- The headline: what holds of the replies to a run of commands, and of each entry and each group at each time of it.
+-- The headline: what is true of the replies to a run of commands, and of each entry and each group at each time of it.
 use Rattle.std.specs.Prelude.{◌≡◌, ◌⊎◌, Some, List, [], ◌∷◌}
 use Rattle.xs_keys.specs.Terms.{Reply, Ascends, ids_of}
 use Rattle.xs_command.specs.WellFormed.{IsWellFormed}
@@ -37,8 +37,8 @@ abbrev pub AreWellFormed : History → Type 0
 AreWellFormed [] = Unit {0}
 AreWellFormed (e ∷ past) = IsWellFormed (event_command e) × AreWellFormed past
 
--- Holds is true of each event of a history that a run led to; if there was a past before the run, only if all of the
--- past, or this event, is well formed. Commands of a run are.
+-- Holds is true of each event of a history after a run; if there was a past before the run, only if all of the past, or
+-- this event, is well formed. The commands of a run are.
 abbrev pub AtEachEvent : History → History → (History → Event → Type 0) → Type 0
 AtEachEvent [] history Holds = AtEach history Holds
 AtEachEvent (newest ∷ older) history Holds = AtEach history (λ earlier e.
@@ -58,14 +58,14 @@ StepsAreConsistent history = AtEach history (λ earlier e.
     (content : Content) → IsContent content earlier
     → IsConsistentContent content × IsContent (content_after content (event_moment e) (event_command e)) (e ∷ earlier))
 
--- what holds of a run over a past, of the answers that the program gave, and of the history that they lead to
+-- what is true of a run over a past, of the replies that the program gave, and of the history after it
 pub record Headline
     (past : History) (run : List Event) (answers : List Reply) (history : History) : Type 0 where
-  -- each reply is the model's, and tells what was done; contents are consistent
+  -- each reply is the model's, and reports what was done; contents are consistent
   pub replies : AreReplied past run answers history
   pub formed : AreWellFormed past → AreWellFormed history
   pub steps_are_consistent : StepsAreConsistent history
-  -- each job has one place, and moves along the arrows alone; entries and groups come and go by their own commands
+  -- each job has one place, and moves only along the arrows; entries and groups come and go by their own commands
   pub places : EachHasAPlace history
   pub moves : AtEachEvent past history EachMovesAlong
   pub entries_are_added : AtEachEvent past history EntriesAreAdded
@@ -80,7 +80,7 @@ pub record Headline
   -- lives of a group are apart
   pub lives_are_apart : AtEachEvent past history LivesAreApart
 
--- after any history that left the old content, the headline holds of the run, and the new content is consistent, and is
+-- after any history with the old content, the headline holds for the run, and the new content is consistent, and is
 -- that of the history with the events that were applied
 abbrev pub RunsOn : Content → List Event → List Reply → Content → Type 0
 RunsOn old run answers new =

@@ -1,4 +1,4 @@
--- What XINFO STREAM, XINFO GROUPS and XINFO CONSUMERS tell of a key. (Redis, their pages, "RESP2 Reply".)
+-- What XINFO STREAM, XINFO GROUPS and XINFO CONSUMERS report about a key. (Redis, their pages, "RESP2 Reply".)
 use Rattle.std.specs.Prelude.{ℕ, ◌+◌, ◌-◌, Bool, true, false, ◌||◌, if◌then◌else◌, List, [], ◌∷◌, ◌++◌, map, length}
 use Rattle.std.specs.Prelude.{codes, min, Some}
 use Rattle.xs_stream.specs.declared.range.Range.{Range}
@@ -11,33 +11,33 @@ use Rattle.xs_keys.specs.Content.{KeyState}
 use Rattle.xs_keys.specs.Event.{Bytes, Entries}
 use Rattle.xs_keys.specs.ReplyParts.{array, id_reply, present_reply}
 
--- XINFO GROUPS: a group, and how many consumers and pending entries it has
+-- XINFO GROUPS: a group, and the numbers of its consumers and of its pending entries
 abbrev pub members_part : Bytes × GroupState → List Reply
 members_part group =
     Bulk (codes "name") ∷ Bulk group.0
     ∷ Bulk (codes "consumers") ∷ Int (length group.1.consumers.entries)
     ∷ Bulk (codes "pending") ∷ Int (length group.1.rows.entries) ∷ []
 
--- a number that a signed one of 64 bits can't tell is told as the greatest that it can
+-- a number above the greatest signed one of 64 bits is reported as that one
 abbrev pub number_reply : ℕ → Reply
 number_reply n = Int (min n greatest_count)
 
--- how many entries are past a cursor
+-- the number of entries above a cursor
 abbrev pub lag_of : StreamState → Id → ℕ
 lag_of stream cursor = count_above cursor (ids_of stream.entries)
 
--- a cursor tells no number of entries at 0-0, where nothing was read, nor above the top, nor if an entry past it was
--- deleted
+-- a cursor gives no number of entries if it is 0-0, where nothing was read, or above the top, or if an entry above it
+-- was deleted
 abbrev pub tells_no_number : StreamState → Id → Bool
 tells_no_number stream cursor =
     is_same_id cursor zero_id || (is_below stream.top cursor || is_below cursor stream.deleted)
 
--- how many entries a group with this cursor has behind it: all that were ever added, but for those past the cursor
+-- the number of entries up to the cursor of a group: all that were ever added, without those above the cursor
 abbrev pub read_reply : StreamState → Id → Reply
 read_reply stream cursor =
     if tells_no_number stream cursor then NullBulk else number_reply (stream.added - lag_of stream cursor)
 
--- how far a group with this cursor has come in a stream
+-- the progress of a group with this cursor in a stream
 abbrev pub progress_part : StreamState → Id → List Reply
 progress_part stream cursor =
     Bulk (codes "last-delivered-id") ∷ id_reply cursor
@@ -67,7 +67,8 @@ abbrev pub end_id : Entries → Id
 end_id [] = zero_id
 end_id (e ∷ es) = e.0
 
--- XINFO STREAM: what it has. Of the radix tree it says what Redis says of a small stream, since there is none here.
+-- XINFO STREAM: the size of the stream; for the radix tree, which doesn't exist here, it reports what Redis reports for
+-- a small stream
 abbrev pub size_part : Entries → List Reply
 size_part entries =
     let nodes = min (length entries) 1 in
@@ -75,7 +76,7 @@ size_part entries =
     ∷ Bulk (codes "radix-tree-keys") ∷ Int nodes
     ∷ Bulk (codes "radix-tree-nodes") ∷ Int (nodes + 1) ∷ []
 
--- what it ever had
+-- the past of the stream
 abbrev pub past_part : StreamState → Id → List Reply
 past_part stream first =
     Bulk (codes "last-generated-id") ∷ id_reply stream.top
@@ -98,7 +99,7 @@ stream_reply key =
     let groups = length key.groups.entries in
     array (size_part entries ++ (past_part key.stream (end_id first) ++ ends_part groups first last))
 
--- XINFO CONSUMERS: a consumer, how many entries are pending with it, and for how long it was given nothing
+-- XINFO CONSUMERS: a consumer, the number of its pending entries, and the time since it was last given something
 abbrev pub consumer_reply : ConsumerReport → Reply
 consumer_reply consumer =
     array (Bulk (codes "name") ∷ Bulk consumer.consumer

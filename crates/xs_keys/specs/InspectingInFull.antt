@@ -1,5 +1,5 @@
--- What XINFO STREAM tells of a key with FULL: its entries, its groups with their pending rows, and their consumers with
--- theirs. (Redis, XINFO STREAM.)
+-- What XINFO STREAM with FULL reports about a key: its entries, its groups with their pending rows, and their consumers
+-- with theirs. (Redis, XINFO STREAM.)
 use Rattle.std.specs.Prelude.{ℕ, ◌-◌, ◌^◌, false, List, [], ◌∷◌, ◌++◌, map, length, codes, Option, Some, None}
 use Rattle.xs_stream.specs.StreamContent.{entries_within}
 use Rattle.xs_keys.specs.Terms.{StreamState, GroupState, ConsumerReport, PendingRow, consumer_reports, pending_of, Reply}
@@ -9,7 +9,7 @@ use Rattle.xs_keys.specs.Event.{Bytes, Entries}
 use Rattle.xs_keys.specs.ReplyParts.{array, id_reply, present_reply}
 use Rattle.xs_keys.specs.Inspecting.{whole_range, end_of, end_id, size_part, past_part, progress_part}
 
--- no limit is the greatest number of 64 bits; no group has so many rows
+-- no limit is the greatest number of 64 bits; no group has that many rows
 abbrev pub most_of : Option ℕ → ℕ
 most_of None = 2 ^ 64 - 1
 most_of (Some n) = n
@@ -38,7 +38,7 @@ abbrev pub whole_consumer_reply : ℕ → Option ℕ → GroupState → Consumer
 whole_consumer_reply now limit group consumer =
     array (consumer_part consumer (first_rows now limit (Some consumer.consumer) group))
 
--- how many rows a group has, and the first of them
+-- the number of rows of a group, and the first of them
 abbrev pub rows_part : ℕ → List PendingRow → List Reply
 rows_part count rows =
     Bulk (codes "pel-count") ∷ Int count ∷ Bulk (codes "pending") ∷ array (map row_reply rows) ∷ []

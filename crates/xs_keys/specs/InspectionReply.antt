@@ -1,4 +1,4 @@
--- What is told of the content, which stays as it is: XINFO, EXISTS, TYPE and DBSIZE. (Redis, their pages, "RESP2
+-- Questions about the content, which don't change it: XINFO, EXISTS, TYPE and DBSIZE. (Redis, their pages, "RESP2
 -- Reply".)
 use Rattle.std.specs.Prelude.{ℕ, ◌+◌, List, [], ◌∷◌, length, if◌then◌else◌}
 use Rattle.xs_command.specs.declared.command.Inspection.{Inspection}
@@ -11,7 +11,7 @@ use Rattle.xs_keys.specs.Event.{Bytes}
 use Rattle.xs_keys.specs.Inspecting.{stream_reply, groups_reply, consumers_reply, number_reply}
 use Rattle.xs_keys.specs.InspectingInFull.{whole_stream_reply}
 
--- EXISTS: how many of these keys are there; one that is named twice counts twice
+-- EXISTS: the number of these keys that exist; one that is named twice counts twice
 abbrev pub existing : List Bytes → Content → ℕ
 existing [] content = 0
 existing (name ∷ names) content = (if has_key content name then 1 else 0) + existing names content

@@ -41,7 +41,7 @@ HasToMove command key group present x (pending consumer) there =
     → there ≡ settled
 HasToMove command key group present x _ there = Unit {0}
 
--- the entry is past the start of a new group; at `$` none is
+-- the entry is above the start of a new group; at `$` none is
 abbrev pub is_past : GroupStart → Id → Bool
 is_past Top x = false
 is_past (At id) x = is_below id x
@@ -51,13 +51,13 @@ abbrev pub found_at : GroupStart → List Id → Id → Place
 found_at start present x =
     if not (is_past start x) then before_start else (if has_id present x then waiting else dropped)
 
--- a trim drops the entry with which it comes: it leaves none, or what it leaves begins above
+-- a trim drops the entry with which it comes: it leaves none, or what it leaves begins above the entry
 abbrev pub trims_new : Trim → Id → Bool
 trims_new (MaxLen n) x = nat_le n 0
 trims_new (MinId low) x = is_below x low
 
--- where an entry may stand at first: one that is added waits or is before the start, and is dropped only by the
--- addition's own trim; one that was there before the group is where the new group finds it
+-- the first place of an entry: one that is added waits or is before the start, and is dropped only by the addition's
+-- own trim; one that was there before the group is where the new group finds it
 abbrev pub IsFirstPlace : Command → List Id → Id → Place → Type 0
 IsFirstPlace (Add add) present x before_start = Unit {0}
 IsFirstPlace (Add add) present x waiting = Unit {0}
@@ -65,8 +65,8 @@ IsFirstPlace (Add add) present x dropped = option_map_or (λ trim. trims_new tri
 IsFirstPlace (GroupCreate create) present x there = there ≡ found_at create.start present x
 IsFirstPlace _ present x there = ⊥
 
--- how a command moves an entry: it comes, since it is added or the group is made; it stays where it is, or moves along
--- an arrow; or the life of the group ends
+-- how a command moves an entry: it comes, because it is added or the group is created; it stays at its place, or moves
+-- along an arrow; or the life of the group ends
 abbrev pub MovesAlong : Command → Bytes → Bytes → List Id → Id → Option Place → Option Place → Type 0
 MovesAlong command key group present x None None = Unit {0}
 MovesAlong command key group present x None (Some there) =
@@ -76,7 +76,7 @@ MovesAlong command key group present x (Some here) (Some there) =
     ((there ≡ here) ⊎ HasArrow command key group present x here there)
     × HasToMove command key group present x here there
 
--- from here no arrow leads on
+-- no arrow leads on from here
 abbrev pub is_final : Place → Bool
 is_final waiting = false
 is_final (pending consumer) = false

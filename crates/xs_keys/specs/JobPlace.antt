@@ -1,4 +1,4 @@
--- The places of a job: where an entry stands for a group. (Redis Streams, "Consumer groups"; XPENDING.)
+-- The places of a job: an entry in a group. (Redis Streams, "Consumer groups"; XPENDING.)
 use Rattle.std.specs.Prelude.{◌≡◌, true, false, not, List, Option, Some, None, is_some, if◌then◌else◌}
 use Rattle.xs_keys.specs.Terms.{Id, is_below, has_id, ids_of}
 use Rattle.xs_keys.specs.Life.{KeyLife, key_life, added_in, present_entries}
@@ -7,7 +7,7 @@ use Rattle.xs_keys.specs.Owner.{last_assignee, owner}
 use Rattle.xs_keys.specs.GroupLife.{GroupLife, group_life}
 use Rattle.xs_keys.specs.Event.{Bytes, History}
 
--- where an entry stands in a life of a group
+-- the place of an entry in a life of a group
 pub data Place : Type 0 where
   before_start : Place  -- at or below the start: not the group's
   waiting : Place  -- in the stream, and its turn is still to come
@@ -16,13 +16,13 @@ pub data Place : Type 0 where
   pending : Bytes → Place  -- delivered, and pending with this consumer
   settled : Place  -- acknowledged, given up with its consumer, or found deleted by a claim
 
--- where a delivered entry stands: to whom it was last assigned, and who has it
+-- the place of a delivered entry: from the consumer to whom it was last assigned, and the one that has it
 abbrev pub place_of_delivered : Option Bytes → Option Bytes → Place
 place_of_delivered None has = handed_out
 place_of_delivered (Some last) None = settled
 place_of_delivered (Some last) (Some consumer) = pending consumer
 
--- where an entry stands, by the life of the group and the ids in the stream
+-- the place of an entry, by the life of the group and the ids in the stream
 abbrev pub place_of : GroupLife → List Id → Id → Place
 place_of life present x =
     if not (is_below life.start x) then before_start
@@ -43,18 +43,18 @@ StandsAt life present x (pending consumer) = owner life.start life.events x ≡ 
 StandsAt life present x settled =
     (is_some (last_assignee life.start life.events x) ≡ true) × (owner life.start life.events x ≡ None)
 
--- an entry stands at one place, and at no other
+-- an entry is at one place, and at no other
 abbrev pub HasOnePlace : GroupLife → List Id → Id → Type 0
 HasOnePlace life present x =
     StandsAt life present x (place_of life present x)
     × ((other : Place) → StandsAt life present x other → other ≡ place_of life present x)
 
--- where an entry stands, by the open lives of its key and of the group; none if it wasn't added, or no life is open
+-- the place of an entry, by the open lives of its key and of the group; None if it wasn't added, or no life is open
 abbrev pub place_in : Option KeyLife → Option GroupLife → Id → Option Place
 place_in (Some past) (Some life) x =
     if has_id (ids_of (added_in past)) x then Some (place_of life (ids_of (present_entries past)) x) else None
 place_in _ _ x = None
 
--- where it stands after a history
+-- its place after a history
 abbrev pub place_after : History → Bytes → Bytes → Id → Option Place
 place_after past key group x = place_in (key_life past key) (group_life past key group) x

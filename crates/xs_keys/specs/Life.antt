@@ -10,7 +10,7 @@ use Rattle.xs_keys.specs.Event.{Bytes, History, Entries, event_moment, event_com
 abbrev pub is_listed : List Bytes → Bytes → Bool
 is_listed names name = list_any (is_same_name name) names
 
--- what happens to the stream of a key; an addition, at its moment, may still be refused
+-- the events of the stream of a key; an addition, at its moment, may still be refused
 pub data StreamEvent : Type 0 where
   add_entry : ℕ → AddId → List Field → Option Trim → StreamEvent  -- XADD
   delete_entries : List Id → StreamEvent  -- XDEL
@@ -20,7 +20,7 @@ pub data StreamEvent : Type 0 where
 abbrev pub KeyLife : Type 0
 KeyLife = List StreamEvent
 
--- the open life of a key, or a new one if the command may make the key
+-- the open life of a key, or a new one if the command may create the key
 abbrev pub life_or_new : Bool → Option KeyLife → Option KeyLife
 life_or_new make life = option_or life (if make then Some [] else None)
 
@@ -66,7 +66,7 @@ added_in (event ∷ past) = added_in past ++ entries_added_by event (top_of (add
 abbrev pub top : KeyLife → Id
 top past = top_of (added_in past)
 
--- an event removes an id: a deletion names it, or it falls to a trim, or to that of an addition that isn't refused
+-- an event removes an id: a deletion names it, or a trim drops it, by itself or with an addition that isn't refused
 abbrev pub removes_id : StreamEvent → Id → List Id → Id → Bool
 removes_id (add_entry now id fields trim) top present x =
     is_ok (id_of_addition now top id) && option_map_or (λ t. is_trimmed t present x) trim false
@@ -92,7 +92,7 @@ deleted_in [] = []
 deleted_in (delete_entries ids ∷ past) = deleted_in past ++ filter (has_id ids) (ids_of (present_entries past))
 deleted_in (event ∷ past) = deleted_in past
 
--- the stream: its top, the entries in it, how many were ever added, and the greatest id ever deleted, or 0-0
+-- the stream: its top, the entries in it, the number of entries ever added, and the greatest id ever deleted, or 0-0
 abbrev pub stream_of : KeyLife → StreamState
 stream_of past = record {
   top = top past;

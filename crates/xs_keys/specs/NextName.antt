@@ -1,4 +1,4 @@
--- A name behind all others, as a map gets them that is put together name by name.
+-- A name above all others, for a map that is built name by name.
 use Rattle.std.specs.Prelude.{ℕ, Bool, List}
 use Rattle.std.specs.List.{list_all}
 use Rattle.std.specs.Ordering.{nat_cmp, is_lt}

@@ -6,7 +6,7 @@ use Rattle.xs_keys.specs.Event.{Bytes}
 use Rattle.xs_keys.specs.GroupEvent.{GroupEvent, new_ids_of_event, claim_of_event, cursor, rows}
 use Rattle.xs_keys.specs.GroupAsk.{consumer_of, reads_without_noack, is_acknowledgement_of, deletes_consumer}
 
--- the event delivers the entry, and not with NOACK
+-- the event delivers the entry, without NOACK
 abbrev pub is_made_pending_by : Id → List GroupEvent → GroupEvent → Id → Bool
 is_made_pending_by start past event x =
     reads_without_noack event.ask && has_id (new_ids_of_event event (cursor start past)) x
@@ -29,7 +29,7 @@ last_assignee start (event ∷ past) x =
 abbrev pub is_deletion_of : GroupEvent → Option Bytes → Bool
 is_deletion_of event consumer = option_map_or (deletes_consumer event.ask) consumer false
 
--- the event is a claim that removes it, since it has left the stream
+-- the event is a claim that removes it, because it has left the stream
 abbrev pub is_removed_by_claim : Id → List GroupEvent → GroupEvent → Id → Bool
 is_removed_by_claim start past event x = has_id (claim_of_event event (rows start past)).removed x
 

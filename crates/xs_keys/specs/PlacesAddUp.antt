@@ -24,17 +24,17 @@ is_same_place (pending one) (pending other) = is_same_name other one
 is_same_place settled settled = true
 is_same_place _ _ = false
 
--- pending, with whatever consumer
+-- pending, with any consumer
 abbrev pub is_pending : Place → Bool
 is_pending (pending consumer) = true
 is_pending _ = false
 
--- the ids ever added whose entries stand at such a place, in their order
+-- the ids ever added whose entries are at such a place, in their order
 abbrev pub jobs_at : (Place → Bool) → KeyLife → GroupLife → List Id
 jobs_at at stream life = filter (λ x. at (place_of life (ids_of (present_entries stream)) x)) (ids_of (added_in stream))
 
--- what waits is what a read without COUNT delivers now; what is pending are the rows that XPENDING shows, of each
--- consumer its own; and with what was dropped, handed out and settled they are all ids added past the start
+-- what waits is what a read without COUNT would deliver now; what is pending are the rows that XPENDING shows, of each
+-- consumer its own; and with what was dropped, handed out and settled they are all ids added above the start
 pub record PlacesAddUp (stream : KeyLife) (life : GroupLife) : Type 0 where
   pub waiting_are :
       jobs_at (is_same_place waiting) stream life
@@ -47,7 +47,7 @@ pub record PlacesAddUp (stream : KeyLife) (life : GroupLife) : Type 0 where
       + (length (jobs_at (is_same_place handed_out) stream life) + (length (rows life.start life.events)
       + length (jobs_at (is_same_place settled) stream life))))
 
--- XPENDING of the group tells this many first
+-- XPENDING of the group reports this number first
 abbrev pub TellsPending : Content → ℕ → Bytes → Bytes → ℕ → Type 0
 TellsPending content now key group n =
     (rest : List Reply) × (reply content now (Pending key group) ≡ array (Int n ∷ rest))

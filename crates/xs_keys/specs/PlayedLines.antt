@@ -19,7 +19,7 @@ pub record PlayedLine : Type 0 where
 abbrev pub at : ℕ → Bytes → Reply → PlayedLine
 at now words answer = record { now = now; words = words; answer = answer }
 
--- the reply to what the words say, and the content after it
+-- the reply to a reading of words, and the content after it
 abbrev pub reply_and_content : Content → ℕ → Result Command Fault → Reply × Content
 reply_and_content content now (Ok command) = (reply content now command, content_after content now command)
 reply_and_content content now (Err fault) = (Error fault, content)
@@ -30,7 +30,7 @@ replies_to content [] = []
 replies_to content (x ∷ xs) =
     let one = reply_and_content content x.now (command_of_words (line x.words)) in one.0 ∷ replies_to one.1 xs
 
--- each line is answered so
+-- each line gets this reply
 abbrev pub IsPlayed : List PlayedLine → Type 0
 IsPlayed exchanges = replies_to empty exchanges ≡ map (λ x. x.answer) exchanges
 

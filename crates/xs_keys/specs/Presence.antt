@@ -21,7 +21,7 @@ abbrev pub adds_to_or_deletes_key : Command → Bytes → Bool
 adds_to_or_deletes_key (Add add) key = is_same_name key add.key
 adds_to_or_deletes_key command key = deletes_key command key
 
--- entries come by additions alone: another command leaves all that was ever added, unless it deletes the key
+-- entries come only by additions: another command leaves all that was ever added, unless it deletes the key
 abbrev pub EntriesAreAdded : History → Event → Type 0
 EntriesAreAdded earlier e =
     (key : Bytes)
@@ -37,8 +37,9 @@ abbrev pub has_to_remove : Command → Bytes → List Id → Id → Bool
 has_to_remove (Add add) key present x = false
 has_to_remove command key present x = may_remove_entry command key present x
 
--- an entry at a command, from the ids in the stream before and after it and those ever added before it: what is there
--- stays unless the command may remove it, it goes if the command has to remove it, and what comes is new
+-- an entry at a command, from the ids in the stream before and after it and those ever added before it: an entry in the
+-- stream stays unless the command may remove it, it is gone if the command has to remove it, and an entry that comes is
+-- new
 pub record EntryStays (command : Command) (key : Bytes) (before after added : List Id) (x : Id) : Type 0 where
   pub unless_removed : has_id before x ≡ true → has_id after x ≡ false → may_remove_entry command key before x ≡ true
   pub is_removed : has_to_remove command key before x ≡ true → has_id after x ≡ false
@@ -58,20 +59,20 @@ abbrev pub StartsAt : GroupStart → Entries → Id → Type 0
 StartsAt Top added start = start ≡ top_of added
 StartsAt (At id) added start = start ≡ id
 
--- a command makes this group with this start
+-- a command creates this group with this start
 abbrev pub MakesGroup : Command → Bytes → Bytes → Entries → Id → Type 0
 MakesGroup (GroupCreate create) key group added start =
     (is_same_group key group create.key create.group ≡ true) × StartsAt create.start added start
 MakesGroup _ key group added start = ⊥
 
--- a group comes by its XGROUP CREATE alone, and starts as that asks
+-- a group comes only by its XGROUP CREATE, and starts as that requires
 abbrev pub GroupsAreCreated : History → Event → Type 0
 GroupsAreCreated earlier e =
     (key group : Bytes) (life : GroupLife) → group_life earlier key group ≡ None
     → group_life (e ∷ earlier) key group ≡ Some life
     → MakesGroup (event_command e) key group (added_at earlier key) life.start
 
--- an XGROUP CREATE of the group, whose key is there or may be made
+-- an XGROUP CREATE of the group, whose key exists or may be created
 abbrev pub has_to_create : Command → Bytes → Bytes → Option KeyLife → Bool
 has_to_create (GroupCreate create) key group stream =
     is_same_group key group create.key create.group && (create.make || is_some stream)

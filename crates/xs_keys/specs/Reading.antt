@@ -1,4 +1,4 @@
--- What the contracts of reads of groups say within the code.
+-- The contracts of reads of groups within the code.
 use Rattle.std.specs.Prelude.{◌≡◌, ℕ, ◌==◌, List, [], ◌∷◌, ◌++◌, length, Option, Some, None, if◌then◌else◌}
 use Rattle.std.specs.List.{flat_map}
 use Rattle.xs_resp.specs.Token.{Token}
@@ -37,7 +37,7 @@ parts_of_one content read one =
     let key = get content one.key in
     option_map_or (parts_of_read read one.key one.from (entries_in key)) (group_in key read.group) []
 
--- a read of a group of one of these keys made the ones of the others, and answered this delivery
+-- a read of a group of one of these keys changed the content so, and returned this delivery
 pub record IsMadeAt (group_name key_name : Bytes) (before after : Content) (delivery : Delivery) : Type 0 where
   pub key : KeyState
   pub was : GroupState
@@ -47,7 +47,8 @@ pub record IsMadeAt (group_name key_name : Bytes) (before after : Content) (deli
   pub put : after ≡ insert before key_name (with_group key group_name is)
   pub made : IsMade was is delivery
 
--- a read of a group of these keys was served: what it left, what it shows, and what takes it back
+-- a read of a group of these keys was served: the content after it, the part that it shows, and the delivery that
+-- undoes it
 pub record IsServedAt
     (now : ℕ) (read : ReadGroupCommand) (one : ReadOne) (before after : Content) (tokens longer : List Token)
     (served : Served) : Type 0 where
@@ -55,7 +56,7 @@ pub record IsServedAt
   pub shows : IsShown (parts_of_one before read one) served.parts tokens longer
   pub made : IsMadeAt read.group one.key before after served.delivery
 
--- the first of these reads made the one content of the other, and answered these deliveries, one after the other
+-- the first of these reads changed the content so, and returned these deliveries, one after the other
 abbrev pub AreMade : Bytes → List ReadOne → List Delivery → Content → Content → Type 0
 AreMade group reads [] first last = last ≡ first
 AreMade group [] (d ∷ ds) first last = ⊥

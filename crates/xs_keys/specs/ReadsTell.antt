@@ -1,4 +1,4 @@
--- What the reply to a read tells: with `>` what is delivered, with an id what the consumer has. (Redis, XREADGROUP,
+-- What the reply to a read reports: with `>` what is delivered, with an id what the consumer has. (Redis, XREADGROUP,
 -- "RESP2 Reply".)
 use Rattle.std.specs.Prelude.{◌≡◌, true, List, [], ◌∷◌, ◌++◌, Option, Some, option_and_then}
 use Rattle.xs_keys.specs.Terms.{Id, ReadGroup, ReadGroupCommand, ReadOne, ReadFrom, New, After, Reply, Bulk, is_below}
@@ -9,7 +9,7 @@ use Rattle.xs_keys.specs.ReplyParts.{array}
 use Rattle.xs_keys.specs.Telling.{TellsEntry, TellsEntryOrNull, TellsEach, AreFirst}
 use Rattle.xs_keys.specs.Event.{Bytes, History, Entries}
 
--- the part of a reply for a stream with these new entries; without any there is none
+-- the part of a reply for a stream with these new entries; there is none without entries
 abbrev pub TellsNew : Bytes → Entries → List Id → List Reply → Type 0
 TellsNew key added [] told = told ≡ []
 TellsNew key added (x ∷ xs) told =
@@ -25,7 +25,7 @@ abbrev pub IsOwnPast : Option GroupLife → Bytes → Id → Id → Type 0
 IsOwnPast life consumer from x = (owner_in life x ≡ Some consumer) × (is_below from x ≡ true)
 
 -- the part of a reply for one stream that an event reads: with `>` what the event delivers in the group, with an id the
--- first entries past it that are pending with the consumer
+-- first entries above it that are pending with the consumer
 abbrev pub TellsRead : History → ReadGroupCommand → Bytes → ReadFrom → List Reply → Type 0
 TellsRead past read key New told =
     TellsNew key (added_at past key) (ids_delivered_by past (ReadGroup read) key read.group) told

@@ -1,7 +1,7 @@
--- What replies tell of entries: an addition tells the one that it adds, a read with `>` those that it delivers, one
--- with an id those that its consumer has, and a claim those that it takes, each as it was added; XPENDING tells what is
--- pending; and an acknowledgement, a deletion and a trim tell how many they remove. (Redis, XADD, XREADGROUP,
--- XCLAIM, XAUTOCLAIM, XPENDING, XACK, XDEL, XTRIM and XLEN, "RESP2 Reply".)
+-- What replies report about entries: an addition the one that it adds, a read with `>` those that it delivers, one with
+-- an id those that its consumer has, and a claim those that it takes, each as it was added; XPENDING what is pending;
+-- and an acknowledgement, a deletion and a trim how many they remove. (Redis, XADD, XREADGROUP, XCLAIM, XAUTOCLAIM,
+-- XPENDING, XACK, XDEL, XTRIM and XLEN, "RESP2 Reply".)
 use Rattle.std.specs.Prelude.{◌≡◌, ◌⊎◌, ℕ, ◌+◌, ◌-◌, ◌≤◌, Bool, true, false, List, [], ◌∷◌, ◌++◌, map, length, Option}
 use Rattle.std.specs.Prelude.{Some, None, is_some}
 use Rattle.xs_stream.specs.StreamContent.{is_within}
@@ -26,8 +26,8 @@ use Rattle.xs_keys.specs.Step.{is_error}
 use Rattle.xs_keys.specs.Event.{Bytes, Event, History, Entries}
 use Rattle.xs_keys.specs.ReadsTell.{owner_in, TellsReads}
 
--- an addition tells the id of the one entry that it adds, with its fields, or that it adds none: by an error, or by the
--- null bulk string if it may not make the key
+-- an addition reports the id of the one entry that it adds, with its fields; or that it adds none: by an error, or by
+-- the null bulk string if it may not create the key
 abbrev pub TellsAddition : Entries → List Field → Reply → Entries → Type 0
 TellsAddition before fields answer after =
     ((id : Id) × (answer ≡ id_reply id) × (after ≡ before ++ (id, fields) ∷ []))
@@ -37,7 +37,7 @@ TellsAddition before fields answer after =
 abbrev pub TellsFewer : (History → ℕ) → History → Event → Reply → Type 0
 TellsFewer count past event answer = (n : ℕ) × (answer ≡ Int n) × (n + count (event ∷ past) ≡ count past)
 
--- how many entries are in the stream of a key, and how many are pending in a group
+-- the number of entries in the stream of a key, and the number of pending ones in a group
 abbrev pub present_count : Bytes → History → ℕ
 present_count key past = length (present_in (key_life past key))
 
@@ -55,14 +55,14 @@ scan_at past now key group ask =
     } in
     option_map_or scan (group_life past key group) (record { cursor = zero_id; claim = no_claim })
 
--- what is taken is the consumer's from then on, what is removed is nobody's, and all else stays with its owner
+-- what is taken is the consumer's from then on, what is removed has no owner, and all else stays with its owner
 pub record IsAssigned (consumer : Bytes) (found : claims.Claim) (before after : Option GroupLife) : Type 0 where
   pub taken : (x : Id) → has_id found.take x ≡ true → owner_in after x ≡ Some consumer
   pub removed : (x : Id) → has_id found.removed x ≡ true → owner_in after x ≡ None
   pub others :
       (x : Id) → has_id found.take x ≡ false → has_id found.removed x ≡ false → owner_in after x ≡ owner_in before x
 
--- the entries that a claim takes, or under JUSTID their ids alone
+-- the entries that a claim takes, or under JUSTID only their ids
 abbrev pub TellsTaken : Bool → Entries → List Id → List Reply → Type 0
 TellsTaken true added ids told = TellsEach (λ x answer. answer ≡ id_reply x) ids told
 TellsTaken false added ids told = TellsEach (TellsEntry added) ids told
@@ -76,7 +76,7 @@ pub record IsAskedRow (asked : PendingRowsCommand) (now : ℕ) (life : GroupLife
   pub long_enough : asked.min_idle ≤ now - time_of life.start life.events x
   pub named : (name : Bytes) → asked.consumer ≡ Some name → consumer ≡ name
 
--- the row of an entry: the id, its owner, for how long it has been idle, and how often it was delivered
+-- the row of an entry: the id, its owner, its idle time, and the number of its deliveries
 abbrev pub TellsRow : ℕ → GroupLife → Id → Reply → Type 0
 TellsRow now life x answer =
     (consumer : Bytes) × (owner life.start life.events x ≡ Some consumer)
@@ -89,17 +89,17 @@ TellsRows asked now life answer =
     (ids : List Id) × (told : List Reply) × (answer ≡ array told)
     × AreFirst (IsAskedRow asked now life) (Some asked.limit) ids × TellsEach (TellsRow now life) ids told
 
--- if the groups that are named are there, the answer tells this; if not, it is an error
+-- if the groups that are named exist, the reply reports this; if not, it is an error
 abbrev pub IfThere : Bool → Reply → Type 0 → Type 0
 IfThere there answer Told = (there ≡ true → Told) × (there ≡ false → answer ≡ Error NoGroup)
 
--- what is told of the content that the past leaves
+-- a question about the content of the past
 abbrev pub TellsContent : History → ℕ → Inspection → Reply → Type 0
 TellsContent past now inspection answer =
     (content : Content) × IsContent content past × (answer ≡ inspection_reply content now inspection)
 
--- the answer to a command, after this past, tells what it did; of ranges, groups, DEL, PING and QUIT nothing is told
--- beyond the model's reply
+-- the reply to a command, after this past, reports what it did; for ranges, groups, DEL, PING and QUIT nothing beyond
+-- the model's reply is required
 abbrev pub IsTold : History → ℕ → Command → Reply → Type 0
 IsTold past now (Add add) answer =
     TellsAddition (added_at past add.key) add.fields answer (added_at ((now, Add add) ∷ past) add.key)

@@ -19,12 +19,12 @@ use Rattle.xs_keys.specs.InspectionReply.{inspection_reply}
 use Rattle.xs_keys.specs.ReplyParts.{stream_part}
 use Rattle.xs_keys.specs.ReplyParts.{new_part, summary_reply, row_reply, taken_reply, scan_reply}
 
--- XDEL and XTRIM: how many entries are removed; a missing key has none
+-- XDEL and XTRIM: the number of entries that are removed; a missing key has none
 abbrev pub removed_count : StreamEvent → Option KeyState → ℕ
 removed_count event key =
     option_map_or (λ k. length k.stream.entries - length (stream_after event k.stream).entries) key 0
 
--- DEL: how many of these keys there are, each counted once
+-- DEL: the number of these keys that exist, each counted once
 abbrev pub existing_count : List Bytes → Content → ℕ
 existing_count [] content = 0
 existing_count (name ∷ names) content =
@@ -36,7 +36,7 @@ parts_of_read read key New entries group = new_part key entries (new_ids read.li
 parts_of_read read key (After id) entries group =
     stream_part key entries (reread_ids read.consumer read.limit id group.rows.entries) ∷ []
 
--- the streams of a read in the order written, each as the reads before it leave it
+-- the streams of a read in the order written, each in the state after the reads before it
 abbrev pub parts : Content → ℕ → ReadGroupCommand → List ReadOne → List Reply
 parts content now read [] = []
 parts content now read (one ∷ more) =

@@ -23,13 +23,13 @@ id_reply id = Bulk (id_text id)
 abbrev pub field_replies : Field → List Reply
 field_replies field = Bulk field.name ∷ Bulk field.value ∷ []
 
--- an entry: its id and its fields; one that is no longer there has the null array
+-- an entry: its id and its fields; one that is no longer in the stream has the null array
 abbrev pub entry_reply : Entries → Id → Reply
 entry_reply entries id =
     let fields = option_map_or (λ fs. array (flat_map field_replies fs)) (fields_at entries id) NullArray in
     array (id_reply id ∷ fields ∷ [])
 
--- the same of an entry that is there
+-- the same for an entry that is in the stream
 abbrev pub present_reply : Id × List Field → Reply
 present_reply entry = array (id_reply entry.0 ∷ array (flat_map field_replies entry.1) ∷ [])
 
@@ -47,11 +47,11 @@ abbrev pub assigned_reply : Result Id AddError → Reply
 assigned_reply (Ok id) = id_reply id
 assigned_reply (Err refusal) = Error (fault_of_addition refusal)
 
--- what is said of a group; a missing one is an error
+-- the reply for a group; a missing one is an error
 abbrev pub reply_of_group : Option GroupState → (GroupState → Reply) → Reply
 reply_of_group group said = option_map_or said group (Error NoGroup)
 
--- XGROUP: what is said of a key; a missing one is an error
+-- XGROUP: the reply for a key; a missing one is an error
 abbrev pub reply_of_key : Option KeyState → (KeyState → Reply) → Reply
 reply_of_key key said = option_map_or said key (Error NoKey)
 
@@ -79,7 +79,7 @@ summary_reply summary =
 abbrev pub row_reply : PendingRow → Reply
 row_reply row = array (id_reply row.id ∷ Bulk row.consumer ∷ Int row.idle ∷ Int row.count ∷ [])
 
--- XCLAIM and XAUTOCLAIM: the entries that a claim took, or their ids alone
+-- XCLAIM and XAUTOCLAIM: the entries that a claim took, or only their ids
 abbrev pub taken_reply : Bool → Entries → List Id → Reply
 taken_reply just_id entries ids = if just_id then array (map id_reply ids) else entries_reply entries ids
 

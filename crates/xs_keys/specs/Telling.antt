@@ -1,5 +1,5 @@
--- How a reply tells of entries, and what it is to be the first of some ids. (Redis, XRANGE, XREADGROUP and XCLAIM,
--- "RESP2 Reply".)
+-- How a reply reports entries, and what the first of some ids are. (Redis, XRANGE, XREADGROUP and XCLAIM, "RESP2
+-- Reply".)
 use Rattle.std.specs.Prelude.{◌≡◌, ◌⊎◌, ℕ, ◌≤◌, true, false, List, [], ◌∷◌, length, Option, Some}
 use Rattle.xs_keys.specs.Terms.{flat_map, Id, Field, has_id, fields_at, Ascends, AllUpTo, Reply, NullArray}
 use Rattle.xs_keys.specs.ReplyParts.{array, id_reply, field_replies}
@@ -23,7 +23,7 @@ TellsEach Tells [] [] = Unit {0}
 TellsEach Tells (x ∷ xs) (told ∷ more) = Tells x told × TellsEach Tells xs more
 TellsEach Tells _ _ = ⊥
 
--- the first of the chosen ids, in their order: all, or as many as the limit says, and then the others come later
+-- the first of the chosen ids, in their order: all, or as many as the limit, and then the others come later
 pub record AreFirst (Chosen : Id → Type 0) (limit : Option ℕ) (ids : List Id) : Type 0 where
   pub ascend : Ascends ids
   pub chosen : (x : Id) → has_id ids x ≡ true → Chosen x

@@ -1,4 +1,4 @@
--- The words of the other crates that the model is written in.
+-- The names of the other crates in which the model is written.
 pub use Rattle.std.specs.List.{flat_map, list_all, list_any}
 pub use Rattle.std.specs.Option.{option_map, option_map_or, option_or}
 pub use Rattle.xs_bytes.specs.Each.{with_some}

@@ -9,12 +9,12 @@ use Rattle.xs_keys.specs.GroupEvent.{GroupEvent, rows}
 use Rattle.xs_keys.specs.Owner.{is_assigned_by}
 use Rattle.xs_keys.specs.Event.{PendingEntries}
 
--- the consumer's own pending ids that an ask shows once more, from the rows it meets
+-- the consumer's own pending ids that an ask shows once more, from the rows that it meets
 abbrev pub own_ids_shown : GroupAsk → PendingEntries → List Id
 own_ids_shown (read_own consumer limit from) rows = reread_ids consumer limit from rows
 own_ids_shown _ rows = []
 
--- the event delivers the entry once more to the consumer who has it: it is shown, and still in the stream
+-- the event delivers the entry once more to the consumer that has it: it is shown, and still in the stream
 abbrev pub is_redelivered_by : Id → List GroupEvent → GroupEvent → Id → Bool
 is_redelivered_by start past event x = has_id (own_ids_shown event.ask (rows start past)) x && has_id event.present x
 
@@ -43,7 +43,7 @@ count_of start [] x = 0
 count_of start (event ∷ past) x =
     if is_touched_by start past event x then count_of_touch event.ask (count_of start past x) else count_of start past x
 
--- time and count of a pending row are those of the event that touched it last
+-- the time and the count of a pending row are those of the event that touched it last
 abbrev pub AreOfLastTouch : Id → List GroupEvent → Type 0
 AreOfLastTouch start events =
     (x : Id) (row : RowState) → row_at (rows start events) x ≡ Some row

@@ -1,15 +1,15 @@
-//! The count of the bytes that are held, and the bound that additions keep to.
+//! The count of the bytes of the keys, and the bound for additions.
 ghost use Rattle.std.specs.Prelude.{◌≡◌, ◌+◌, ◌^◌, ◌%◌, ◌<◌, Ok, Err, if◌then◌else◌};
 ghost use Rattle.xs_keys.specs.KeysRoom.{is_above};
 
 use std::alloc::AllocError;
 
-/// Why there is no memory for what is to be added.
+/// Why there is no memory for an addition.
 #[derive(Clone, Copy, Debug, PartialEq, Eq)]
 pub(crate) enum NoMemory {
     /// The system gave none.
     System,
-    /// More would be held than the bound.
+    /// The count would be above the bound.
     Bound,
 }
 
@@ -23,18 +23,18 @@ impl From<AllocError> for NoMemory {
     }
 }
 
-/// How many bytes are held, and how many may be. The count is kept modulo 2^128, so no sum is too great for it.
+/// The count of the bytes, and its bound. The count is stored modulo 2^128, so no sum is too great for it.
 #[derive(Drop)]
 pub(crate) struct Account {
-    /// How many bytes are held.
+    /// The number of bytes that are counted.
     held: u128,
-    /// How many may be held when an addition comes; 0 if there is no bound.
+    /// The most bytes when something is added; 0 if there is no bound.
     bound: u64,
     ghost small: { held < 2 ^ 128 },
 }
 
 impl Account {
-    /// Nothing is held, and there is no bound.
+    /// Nothing is counted, and there is no bound.
     pub(crate) fn new() -> Self
         ensures held { result.held ≡ 0 }
         ensures bound { result.bound ≡ 0 }
@@ -42,21 +42,21 @@ impl Account {
         Self { held: 0, bound: 0 }
     }
 
-    /// How many bytes are held.
+    /// The number of bytes that are counted.
     pub(crate) fn held(&self) -> u128
         ensures { result ≡ self.now.held }
     {
         self.held
     }
 
-    /// From now on so many bytes may be held; 0 if there is no bound.
+    /// Sets the bound in bytes; 0 for none.
     pub(crate) fn set_bound(&mut self, bound: u64)
         ensures { self.new ≡ record self.old { bound = bound } }
     {
         self.bound = bound;
     }
 
-    /// Whether so many bytes more may be held: not if they are above the bound.
+    /// Whether `more` further bytes are within the bound.
     pub(crate) fn admit(&self, more: u128) -> Result<(), NoMemory>
         ensures { result ≡ if is_above self.now.bound self.now.held more then Err NoMemory.Bound else Ok tt }
     {
@@ -67,7 +67,7 @@ impl Account {
         Ok(())
     }
 
-    /// What took so many bytes takes so many others now.
+    /// Replaces `before` bytes of the count by `after`.
     pub(crate) fn change(&mut self, before: u128, after: u128)
         ensures held { (self.new.held + before) % 2 ^ 128 ≡ (self.old.held + after) % 2 ^ 128 }
         ensures bound { self.new.bound ≡ self.old.bound }

@@ -1,11 +1,11 @@
-//! Where moments come from.
+//! The source of moments.
 ghost use Rattle.std.specs.Prelude.{ℕ};
 
 use xs_stream::Moment;
 
-/// A clock. Moments may repeat and go back. Each implementation names which moments it may give.
+/// A clock. Moments may repeat and go back. Each implementation defines which moments it may give.
 pub trait Clock {
-    /// From this state the clock may give this moment and go on to that state.
+    /// In this state the clock may give this moment and go on to that state.
     ghost gives: { Self → ℕ → Self → Type 0 };
 
     /// The moment now.

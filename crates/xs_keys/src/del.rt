@@ -9,7 +9,7 @@ use xs_bytes::{Bytes, List, U63};
 use xs_command::Command;
 use xs_resp::Reply;
 
-/// Removes keys, and counts those that were there, each once.
+/// Removes keys, and counts those that existed, each once.
 fn remove_all(keys: &mut Keys, names: &[Bytes]) -> u64
     ensures content { keys.new ≡ without_keys names.now keys.old }
     ensures count { result ≡ existing_count names.now keys.old }
@@ -22,7 +22,7 @@ fn remove_all(keys: &mut Keys, names: &[Bytes]) -> u64
     (before - keys.len()) as u64
 }
 
-/// Removes keys with their groups, and says how many of them there were, each counted once.
+/// Removes keys with their groups. The reply is the number of those that existed, each counted once.
 pub fn delete(keys: &mut Keys, names: &List<Bytes>) -> Reply
     ensures { AppliedAtAnyTime keys.old (Command.DropKeys names.now) result keys.new }
 {

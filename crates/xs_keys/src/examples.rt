@@ -19,7 +19,7 @@ pub fn streams()
     ensures { Streams }
 {}
 
-/// What words say, and the first fault of them.
+/// The meaning of words, and their first fault.
 pub fn words()
     ensures { Words }
 {}
@@ -34,17 +34,17 @@ pub fn claims()
     ensures { Claims }
 {}
 
-/// Consumers, groups and keys that end, and begin again.
+/// Consumers, groups and keys that end and begin again.
 pub fn lives()
     ensures { Lives }
 {}
 
-/// What is left when the last one of something goes.
+/// What is left after the last one of something is removed.
 pub fn remains()
     ensures { Remains }
 {}
 
-/// Reads without pending, and of several streams.
+/// Reads with NOACK, and of several streams.
 pub fn reads()
     ensures { Reads }
 {}
@@ -54,7 +54,7 @@ pub fn reports()
     ensures { Reports }
 {}
 
-/// Where counts stop, what goes before what, every field, ends and starts.
+/// The greatest counts, precedence of options, every field, ends and starts.
 pub fn edges()
     ensures { Edges }
 {}
@@ -84,7 +84,7 @@ pub fn memory()
     ensures { history.Memory }
 {}
 
-/// What replies tell of entries.
+/// What replies report about entries.
 pub fn told()
     ensures { history.Told }
 {}
@@ -104,7 +104,7 @@ pub fn moments_of_consumers()
     ensures { group_events.Moments }
 {}
 
-/// Who has an entry.
+/// The owner of an entry.
 pub fn owners()
     ensures { group_events.Owners }
 {}
@@ -134,47 +134,47 @@ pub fn contents()
     ensures { content.Contents }
 {}
 
-/// Each way in which an owner goes on.
+/// Each way in which an owner can change.
 pub fn owners_go_on()
     ensures { headline.OwnersGoOn }
 {}
 
-/// How a life goes on with what an event delivers.
+/// How a life continues with what an event delivers.
 pub fn lives_go_on()
     ensures { headline.LivesGoOn }
 {}
 
-/// What is an answer to an event.
+/// What is a reply to an event.
 pub fn answers_go_on()
     ensures { headline.AnswersGoOn }
 {}
 
-/// How an addition and the making of a group may end.
+/// How an addition and the creation of a group can end.
 pub fn endings()
     ensures { headline.Endings }
 {}
 
-/// What the replies to reads of groups tell.
+/// What the replies to reads of groups report.
 pub fn told_reads()
     ensures { ToldReads }
 {}
 
-/// What the replies to additions tell.
+/// What the replies to additions report.
 pub fn told_additions()
     ensures { ToldAdditions }
 {}
 
-/// What the replies to claims tell.
+/// What the replies to claims report.
 pub fn told_claims()
     ensures { ToldClaims }
 {}
 
-/// How many an acknowledgement, a deletion and a trim take away, and what XPENDING and XLEN count.
+/// How many an acknowledgement, a deletion and a trim remove, and what XPENDING and XLEN count.
 pub fn told_numbers()
     ensures { ToldNumbers }
 {}
 
-/// How an entry is told.
+/// How an entry is reported.
 pub fn telling_of_entries()
     ensures { telling.Telling }
 {}
@@ -184,27 +184,27 @@ pub fn first_ids()
     ensures { telling.Firsts }
 {}
 
-/// Where an entry stands.
+/// The place of an entry.
 pub fn places_of_a_job()
     ensures { job.Places }
 {}
 
-/// What each place is.
+/// The meaning of each place.
 pub fn standings_of_a_job()
     ensures { job.Standings }
 {}
 
-/// What leads an entry on, and whereto.
+/// What moves an entry, and to which place.
 pub fn arrows_of_a_job()
     ensures { job.Arrows }
 {}
 
-/// What leads it nowhere.
+/// What doesn't move it.
 pub fn no_arrows_of_a_job()
     ensures { job.NoArrows }
 {}
 
-/// How an entry comes, goes and stays.
+/// How an entry comes, moves and stays.
 pub fn comings_of_a_job()
     ensures { job.Comings }
 {}
@@ -219,17 +219,17 @@ pub fn beginnings_of_a_job()
     ensures { presence.Beginnings }
 {}
 
-/// What makes a group.
+/// What creates a group.
 pub fn creations_of_a_group()
     ensures { presence.Creations }
 {}
 
-/// While which events a group goes on.
+/// The events after which a group is still open.
 pub fn lasting_lives()
     ensures { job.Lasting }
 {}
 
-/// Which entries stand where.
+/// Which entries are at which place.
 pub fn books_of_a_group()
     ensures { job.Books }
 {}
@@ -249,7 +249,7 @@ pub fn blocks()
     ensures { waiting.Blocks }
 {}
 
-/// What is told of a content.
+/// Questions about a content.
 pub fn inspections()
     ensures { Inspections }
 {}

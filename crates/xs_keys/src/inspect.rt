@@ -11,7 +11,7 @@ use xs_command::{Command, Inspection};
 use xs_resp::{Reply, Simple};
 use xs_stream::Moment;
 
-/// How many of these keys are there. One that is named twice counts twice.
+/// The number of these keys that exist. One that is named twice counts twice.
 fn count_existing(keys: &Keys, names: &[Bytes]) -> usize
     ensures { result ≡ existing names.now keys.now }
 {
@@ -24,7 +24,7 @@ fn count_existing(keys: &Keys, names: &[Bytes]) -> usize
     count
 }
 
-/// What is told of the content, which stays as it is.
+/// The reply to a question about the content, which doesn't change it.
 pub fn inspect(
     keys: &Keys,
     alloc: Global,

@@ -1,4 +1,4 @@
-//! The keys, and what a key holds.
+//! The keys, and the content of a key.
 ghost use Rattle.std.specs.Prelude.{◌≡◌, ◌<◌, ◌^◌, ◌%◌, ◌++◌, ◌∷◌, [], length, map, true, false, None, IfOk, OnOk, OnErr};
 ghost use Rattle.std.specs.Option.{option_copied};
 ghost use Rattle.xs_bytes.specs.SortedMap.{empty, get, insert, remove};
@@ -16,13 +16,13 @@ use xs_group::Group;
 use xs_maps::Entries;
 use xs_stream::Stream;
 
-/// How many bytes a key is counted with beside its name, its stream and its groups.
+/// The number of bytes that a key is counted with, without its name, its stream and its groups.
 const KEY_ROOM: u128 = 330;
 
 /// The groups of a key.
 pub type Groups = NameMap<Group>;
 
-/// What a key holds: a stream, and its groups. A contract sees their memory too.
+/// The content of a key: a stream, and its groups. A contract sees their memory too.
 #[derive(Drop)]
 pub struct Slot {
     /// The stream.
@@ -43,7 +43,7 @@ impl Model for Slot {
 }
 
 impl Slot {
-    /// How many bytes it is counted with, beside its name.
+    /// The number of bytes that it is counted with, without its name.
     pub fn room(&self) -> u128
         ensures { result ≡ room_of_key self.now % 2 ^ 128 }
     {
@@ -51,7 +51,7 @@ impl Slot {
     }
 }
 
-/// How many bytes groups are counted with, and their names.
+/// The number of bytes that groups and their names are counted with.
 fn room_of_groups(groups: &Groups) -> u128
     ensures { result ≡ room_of_named room_of_group groups.now.entries % 2 ^ 128 }
 {
@@ -68,7 +68,7 @@ fn room_of_groups(groups: &Groups) -> u128
 #[derive(Drop)]
 pub struct Keys {
     pub(crate) slots: NameMap<Slot>,
-    /// How many bytes they are counted with, and how many may be.
+    /// The count of their bytes, and its bound.
     pub(crate) account: Account,
 }
 
@@ -97,28 +97,28 @@ impl Keys {
         }
     }
 
-    /// From now on additions are refused where more than so many bytes would be counted; 0 if there is no bound.
+    /// Sets the bound of the counted bytes; 0 for none. Additions above it are refused.
     pub fn set_bound(&mut self, bytes: u64)
         ensures { self.new ≡ self.old }
     {
         self.account.set_bound(bytes);
     }
 
-    /// How many bytes they are counted with.
+    /// The number of bytes that they are counted with.
     pub fn bytes_held(&self) -> u128
         ensures { IsRoomOf self.now result }
     {
         self.account.held()
     }
 
-    /// What a key holds.
+    /// The content of a key.
     pub fn get(&self, key: &Bytes) -> Option<&Slot>
         ensures { state_in (option_copied result) ≡ get self.now key.now }
     {
         self.slots.get(key)
     }
 
-    /// How many keys there are.
+    /// The number of keys.
     pub fn len(&self) -> usize
         ensures value { result ≡ length self.now.entries }
         ensures small { result < 2 ^ 63 }
@@ -126,7 +126,7 @@ impl Keys {
         self.slots.len()
     }
 
-    /// The keys with what they hold, in the order of the names' bytes.
+    /// The keys with their contents, in the order of the names' bytes.
     pub fn iter(&self) -> Entries<'_, Bytes, Slot>
         ensures { map (λ e. (e.0, key_state_of e.1)) result ≡ self.now.entries }
     {
@@ -140,7 +140,7 @@ impl Keys {
         self.slots.is_past(key)
     }
 
-    /// Puts a key in that isn't there.
+    /// Inserts a key, which must not exist.
     pub fn insert(&mut self, key: Bytes, slot: Slot) -> Result<(), AllocError>
         requires { get self.old key ≡ None }
         ensures ok { OnOk result (self.new ≡ insert self.old key (key_state_of slot)) }
@@ -156,7 +156,7 @@ impl Keys {
         }
     }
 
-    /// Puts a key behind all others, and says whether it did. It refuses, and changes nothing, a name that isn't above
+    /// Appends a key after all others. Returns whether it did. It refuses, and changes nothing, if the name isn't above
     /// those of all keys.
     pub fn push(&mut self, key: Bytes, slot: Slot) -> Result<bool, AllocError>
         ensures next { IfOk result (λ put. put ≡ is_past_names key self.old) }
@@ -173,7 +173,7 @@ impl Keys {
         Ok(true)
     }
 
-    /// Takes a key out.
+    /// Removes a key.
     pub fn remove(&mut self, key: &Bytes)
         ensures { self.new ≡ remove self.old key.now }
     {
@@ -185,7 +185,7 @@ impl Keys {
     }
 }
 
-/// The group of a key, where both are there.
+/// The group of a key, if both exist.
 pub fn group_at<'a>(keys: &'a Keys, key: &Bytes, group: &Bytes) -> Option<&'a Group>
     ensures { option_copied result ≡ group_in (get keys.now key.now) group.now }
 {

@@ -21,10 +21,10 @@ use xs_maps::Entries;
 use xs_resp::{Fault, Reply, Simple};
 use xs_stream::{Field, Moment};
 
-/// The keys and what they hold. A contract sees the content of a history.
+/// The keys and their contents. A contract sees the content of a history.
 ///
-/// When memory runs out, additions and new groups are refused first: a reserve of 4 MiB, and of room for the reply of
-/// the greatest entry, is made whole before each of them, and given back if another command finds no memory.
+/// If memory runs out, additions and new groups are refused first: a reserve of 4 MiB, and of room for the reply of the
+/// greatest entry, is filled before each of them, and given back if memory is refused for another command.
 #[derive(Drop)]
 pub struct Keyspace {
     keys: Keys,
@@ -60,45 +60,45 @@ impl Keyspace {
         }
     }
 
-    /// From now on additions and new groups are refused unless so many bytes are free in one piece beside all that this
-    /// holds: other threads need memory too, for the commands of consumers.
+    /// Sets how many bytes have to be free in one piece, besides all that this holds, when something is added or a
+    /// group is created: other threads need memory too, for the commands of consumers.
     pub fn leave_free(&mut self, bytes: usize)
         ensures { self.new ≡ self.old }
     {
         self.reserve.leave_free(bytes);
     }
 
-    /// From now on `XADD`, `XGROUP CREATE` and `XGROUP CREATECONSUMER` are answered `OOM` if what is held and what they
-    /// take are more than so many bytes; 0 if there is no bound.
+    /// Sets a bound in bytes; 0 for none. `XADD`, `XGROUP CREATE` and `XGROUP CREATECONSUMER` are answered `OOM` if the
+    /// bytes of the keyspace and those that the command adds are together above it.
     pub fn set_bound(&mut self, bytes: u64)
         ensures { self.new ≡ self.old }
     {
         self.keys.set_bound(bytes);
     }
 
-    /// How many keys there are.
+    /// The number of keys.
     pub fn len(&self) -> usize
         ensures { result ≡ length self.now.entries }
     {
         self.keys.len()
     }
 
-    /// The keys with what they hold, in the order of the names' bytes.
+    /// The keys with their contents, in the order of the names' bytes.
     pub fn iter(&self) -> Entries<'_, Bytes, Slot>
         ensures { list_map (λ e. (e.0, key_state_of e.1)) result ≡ self.now.entries }
     {
         self.keys.iter()
     }
 
-    /// How many bytes they are counted with, modulo 2^128.
+    /// The number of bytes that they are counted with, modulo 2^128.
     pub fn bytes_held(&self) -> u128
         ensures { IsRoomOf self.now result }
     {
         self.keys.bytes_held()
     }
 
-    /// Puts a key behind all others, into a keyspace that is read from a snapshot, and says whether it did. It refuses,
-    /// and changes nothing, a name that isn't above those of all keys.
+    /// Appends a key after all others, to a keyspace that is read from a snapshot. Returns whether it did. It refuses,
+    /// and changes nothing, if the name isn't above those of all keys.
     pub fn restore_key(&mut self, name: Bytes, slot: Slot) -> Result<bool, AllocError>
         ensures next { IfOk result (λ put. put ≡ is_past_names name self.old) }
         ensures ok { IfOk result (λ put. put ≡ true → self.new ≡ map.insert self.old name (key_state_of slot)) }
@@ -110,8 +110,8 @@ impl Keyspace {
         self.keys.push(name, slot)
     }
 
-    /// An entry with these fields is read from a snapshot: from now on the reserve is whole only with room for its
-    /// reply.
+    /// Holds room in the reserve for the reply of an entry with these fields, which is read from a snapshot: from now
+    /// on the reserve is full only with this room.
     pub fn hold_room(&mut self, fields: &[Field])
         ensures { self.new ≡ self.old }
     {
@@ -119,14 +119,14 @@ impl Keyspace {
             .hold(reply_bytes(fields.len(), xadd::bytes_of(fields)));
     }
 
-    /// How many bytes it takes at most to make the reply of the greatest entry that was added or held room for. The
+    /// The most bytes that it takes to make the reply of the greatest entry that was added or held room for. The
     /// reserve has room for it.
     pub fn greatest_reply(&self) -> usize {
         self.reserve.greatest()
     }
 
-    /// Applies one command at a moment, and gives its reply. What is refused changes nothing. The reply
-    /// `OOM` says out of memory, and comes only if there is no other refusal.
+    /// Applies one command at a moment, and returns its reply. What is refused changes nothing. The reply `OOM` reports
+    /// out of memory, and is given only if there is no other refusal.
     pub fn apply(&mut self, now: Moment, command: &Command) -> Reply
         requires { IsWellFormed command.now }
         ensures { Step self.old now command.now result self.new }
@@ -142,7 +142,7 @@ impl Keyspace {
         }
     }
 
-    /// Whether the reply to a read would be the null array, so that the read may wait.
+    /// Whether the reply to a read would be the null array, so the read may wait.
     #[tactic(auto, using(crate::proofs::NothingNew::answers))]
     pub fn finds_nothing(&self, read: &ReadGroupCommand) -> Result<bool, AllocError>
         ensures null { IfOk result (λ nothing. nothing ≡ true → IsAnsweredNull self.now (Command.ReadGroup read.now)) }
@@ -160,8 +160,8 @@ impl Keyspace {
         in_vain::reads_in_vain(&self.keys, self.alloc, read)
     }
 
-    /// Applies commands at their moments, in order. A refusal means that nothing was applied; a command
-    /// may be answered `OOM` all the same.
+    /// Applies commands at their moments, in order. If this fails, nothing was applied. A command may be answered `OOM`
+    /// all the same.
     pub fn run(&mut self, events: &[(Moment, Command)]) -> Result<Vec<Reply>, AllocError>
         requires { All (λ event. IsWellFormed event.1) events.now }
         ensures run { IfOk result (λ replies. RunsOn self.old events.now replies.items self.new) }
@@ -176,7 +176,7 @@ impl Keyspace {
     }
 }
 
-/// Whether the command puts in what stays until it is taken out, as producers do.
+/// Whether the command adds what stays until it is removed, as producers do.
 fn grows(command: &Command) -> bool {
     matches!(command, Command::Add(_) | Command::GroupCreate(_))
 }

@@ -1,5 +1,5 @@
-//! Laws of the model. Each holds of every history, so of every part of one from its beginning on, and
-//! of lives that are over.
+//! Laws of the model. Each is true of every history, so of every part of one from its beginning on, and of lives that
+//! have ended.
 ghost use Rattle.std.specs.Prelude.{◌≡◌, ◌⊎◌, ℕ, false, true, List, [], ◌∷◌, ◌++◌, None, Some, length};
 ghost use Rattle.std.specs.Option.{option_map};
 ghost use Rattle.xs_bytes.specs.SortedMap as map;
@@ -32,8 +32,8 @@ ghost use Rattle.xs_keys.specs.EachOwner.{IsPendingWithOwner};
 ghost use Rattle.xs_keys.specs.Headline.{OfEachLife};
 ghost use Rattle.xs_keys.specs.Event.{Bytes, Event, History};
 
-/// The empty history leaves the empty content; an event leads from the content of a history to the
-/// content of the history followed by it; a history has one content; and that is consistent.
+/// The empty history has the empty content; an event leads from the content of a history to the content of the history
+/// followed by it; a history has only one content; and that is consistent.
 pub fn step_law()
     ensures empty { IsContent map.empty [] }
     ensures step { (past : History) (content : Content) (now : ℕ) (command : Command) →
@@ -44,33 +44,33 @@ pub fn step_law()
         IsContent content past → IsConsistentContent content }
 {}
 
-/// What is refused changes nothing: where the reply to a command is an error, the content stays as it was.
+/// What is refused changes nothing: if the reply to a command is an error, the content is unchanged.
 pub fn what_is_refused_changes_nothing()
     ensures { (content : Content) (now : ℕ) (command : Command) → IsWellFormed command →
         IsUnchangedIfRefused content now command }
 {}
 
-/// The ids given in the life of a key ascend.
+/// The ids added in the life of a key ascend.
 pub fn ids_ascend()
     ensures { (past : History) (name : Bytes) (changes : List StreamEvent) → key_life past name ≡ Some changes →
         Ascends (ids_of (added_in changes)) }
 {}
 
-/// The ids delivered in the life of a group ascend over all its reads, and are past its start.
+/// The ids delivered in the life of a group ascend over all its reads, and are above its start.
 pub fn deliveries_ascend()
     ensures ascend { OfEachLife (λ life. Ascends (delivered_ids life.start life.events)) }
     ensures past_start { OfEachLife (λ life. AllAbove life.start (delivered_ids life.start life.events)) }
 {}
 
-/// An id above the start and not above the cursor has had its turn, and was delivered exactly where it
-/// was in the stream then.
+/// An id above the start and not above the cursor has had its turn, and was delivered exactly if it was in the stream
+/// then.
 pub fn delivered_exactly_if_present_at_its_turn()
     ensures { OfEachLife (λ life. (x : Id) →
         is_below life.start x ≡ true → is_below (cursor life.start life.events) x ≡ false
         → HadItsTurn life.start life.events x) }
 {}
 
-/// A read of new entries delivers as many as it asks for, or leaves no entry in the stream past the cursor.
+/// A read of new entries delivers as many as it asks for, or leaves no entry in the stream above the cursor.
 pub fn a_read_delivers_in_full()
     ensures { OfEachLife (λ life. DeliversInFull life.start life.events) }
 {}
@@ -82,9 +82,9 @@ pub fn one_owner_until_settled()
     ensures by_claims { OfEachLife (λ life. ChangesByClaims life.start life.events) }
 {}
 
-/// An event delivers nothing of a life of a group where it is on another key or group, or where no life
-/// of the group is open: before its start, or after its end. What is delivered in a life is what its
-/// events deliver, one after the other, and nothing else.
+/// An event delivers nothing of a life of a group if it is on another key or group, or if no life of the group is open:
+/// before its start, or after its end. What is delivered in a life is what its events deliver, one after the other, and
+/// nothing else.
 pub fn lives_are_apart()
     ensures elsewhere { (past : History) (command : Command) (key group : Bytes) →
         (is_same_name group (read_group_of command) ≡ false) ⊎ (reads_new_entries command key ≡ false)
@@ -97,44 +97,44 @@ pub fn lives_are_apart()
         LifeContinues (group_life past key group) new (group_life ((now, command) ∷ past) key group) }
 {}
 
-/// What an accepted read with `>` tells its consumer are the entries that the event delivers in the group, and what an
-/// accepted claim tells are those that it takes, each with the fields that it was given with (ids alone under JUSTID).
+/// An accepted read with `>` reports to its consumer the entries that the event delivers in the group, and an accepted
+/// claim those that it takes, each with the fields with which it was added (only ids under JUSTID).
 pub fn what_is_told_is_what_was_delivered()
     ensures { (past : History) (content : Content) (now : ℕ) (command : Command) →
         IsContent content past → IsWellFormed command → IsTold past now command (reply content now command) }
 {}
 
-/// The owner, searched for by looking back for the last event that assigned the entry and for a later one
-/// that settled it, is the consumer of the row that the proofs go over.
+/// The owner, found by looking back for the last event that assigned the entry and for a later one that settled it, is
+/// the consumer of the row that the proofs use.
 pub fn owner_is_of_the_row()
     ensures pending_row_at { OfEachLife (λ life. (x : Id) →
         owner life.start life.events x ≡ option_map (λ row. row.consumer) (pending_row_at life.start life.events x)) }
     ensures pending { OfEachLife (λ life. IsPendingWithOwner life.start life.events) }
 {}
 
-/// The time and the delivery count of a pending row, carried from event to event, are those that the last event
-/// gave that touched the entry: that delivered it, claimed it, or showed it once more to its consumer.
+/// The time and the delivery count of a pending row, carried from event to event, are those of the last event that
+/// touched the entry: that delivered it, claimed it, or showed it once more to its consumer.
 pub fn time_and_count_are_of_the_last_touch()
     ensures { OfEachLife (λ life. AreOfLastTouch life.start life.events) }
 {}
 
-/// A claim takes an entry only if it has an owner, is in the stream, and the time that it was last given lies as far
-/// back as the claim asks; and it removes a pending entry only if that is no longer in the stream. Of the entries that
-/// may be taken so an XCLAIM takes each that it names, and an XAUTOCLAIM each from its start on, until it has COUNT
+/// A claim takes an entry only if it has an owner, is in the stream, and the time that it was last given is as far back
+/// as the claim requires; and it removes a pending entry only if that is no longer in the stream. Of the entries that
+/// may be taken so, an XCLAIM takes each that it names, and an XAUTOCLAIM each from its start on, until it has COUNT
 /// hits or 10 x COUNT ids.
 pub fn a_claim_takes_what_is_idle()
     ensures { OfEachLife (λ life. ClaimsAreExact life.start life.events) }
 {}
 
-/// The life of a job. Entries come by XADD alone, and leave their stream by a deletion, a trim or with their key; a
-/// group comes by its XGROUP CREATE alone, which starts it as asked, and stays open until it is destroyed or its key
-/// goes. Each entry that was given has one place in each group of its stream, and no other: it is not the group's,
+/// The life of a job. Entries come only by XADD, and leave their stream by a deletion, a trim or with their key; a
+/// group comes only by its XGROUP CREATE, which sets its start, and stays open until it is destroyed or its key is
+/// deleted. Each entry that was added has one place in each group of its stream, and no other: it is not the group's,
 /// waits, was dropped before its turn, was handed out with NOACK, is pending with one consumer, or is settled. Each
-/// event leaves it there, or leads it along an arrow: what waits is read or dropped; what is pending goes to another
-/// consumer by a claim alone, and is settled by an acknowledgement, the removal of its consumer, or a claim that
-/// finds it deleted. What was dropped, handed out or settled stays so for the life of the group. So none is lost,
-/// doubled or without an owner: what waits, what was dropped or handed out, the rows that XPENDING shows and what is
-/// settled are all that was given past the start.
+/// event leaves it there, or moves it along an arrow: what waits is read or dropped; what is pending moves to another
+/// consumer only by a claim, and is settled by an acknowledgement, the removal of its consumer, or a claim that finds
+/// it deleted. What was dropped, handed out or settled stays so for the life of the group. So none is lost, doubled or
+/// without an owner: what waits, what was dropped or handed out, the rows that XPENDING shows and what is settled are
+/// all that was added above the start.
 pub fn the_life_of_a_job()
     ensures one_place { (past : History) (key group : Bytes) (changes : List StreamEvent) (life : GroupLife) →
         key_life past key ≡ Some changes → group_life past key group ≡ Some life →

@@ -1,9 +1,9 @@
 //! A key, and a group of it.
 
-/// Binds the slot of a key, and a group of it. The block behind the first `else` runs if the key isn't there, that behind
-/// the second one if the group isn't; one block is for both. It has to leave the function, or the loop.
+/// Binds the slot of a key, and a group of it. The block after the first `else` runs if the key doesn't exist, that
+/// after the second one if the group doesn't; one block is for both. It has to leave the function, or the loop.
 ///
-/// It isn't a function since a function can't lend both the stream and the group.
+/// It is not a function, because a function can't lend both the stream and the group.
 macro_rules! let_group {
     ($slot:ident, $group:ident = $keys:ident, $key:expr, $name:expr, else $missing:block) => {
         let_group!($slot, $group = $keys, $key, $name, else $missing, else $missing);

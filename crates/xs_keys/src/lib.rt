@@ -1,4 +1,4 @@
-//! The keyspace: one event at a time, and whole runs of events, each as the model of whole histories says.
+//! The keyspace: one event at a time, and whole runs of events, each as the model of whole histories defines it.
 #![tactic(auto)]
 
 mod account;

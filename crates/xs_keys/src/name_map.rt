@@ -56,7 +56,7 @@ impl<V> NameMap<V> {
         self.entries.get_mut(name)
     }
 
-    /// How many names have a value.
+    /// The number of names.
     pub fn len(&self) -> usize
         ensures value { result ≡ length self.now.entries }
         ensures small { result < 2 ^ 63 }
@@ -93,7 +93,7 @@ impl<V> NameMap<V> {
 }
 
 impl<V: Drop> NameMap<V> {
-    /// Puts a value at a name.
+    /// Inserts a value at a name.
     pub fn insert(&mut self, name: Bytes, value: V) -> Result<(), AllocError>
         ensures ok { OnOk result (self.new ≡ insert self.old name value) }
         ensures err { OnErr result (self.new ≡ self.old) }
@@ -101,7 +101,7 @@ impl<V: Drop> NameMap<V> {
         self.entries.insert(name, value)
     }
 
-    /// Puts a value behind the others, and says whether it did. It refuses, and changes nothing, a name that isn't
+    /// Appends a value after the others. Returns whether it did. It refuses, and changes nothing, if the name isn't
     /// above those of all entries.
     pub fn push(&mut self, name: Bytes, value: V) -> Result<bool, AllocError>
         ensures next { IfOk result (λ put. put ≡ is_past_names name self.old) }
@@ -118,7 +118,7 @@ impl<V: Drop> NameMap<V> {
         Ok(true)
     }
 
-    /// Takes the value at a name out.
+    /// Removes the value at a name and returns it.
     pub fn remove(&mut self, name: &Bytes) -> Option<V>
         ensures value { result ≡ get self.old name.now }
         ensures map { self.new ≡ remove self.old name.now }

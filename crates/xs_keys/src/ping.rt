@@ -7,7 +7,7 @@ use xs_bytes::Bytes;
 use xs_command::Command;
 use xs_resp::{Reply, Simple};
 
-/// PONG, or the message that was sent. No key plays a part.
+/// PONG, or the message that was sent. It doesn't use the keys.
 pub fn ping(alloc: Global, message: &Option<Bytes>) -> Result<Reply, AllocError>
     ensures { (content : Content) → AttemptAtAnyTime content (Command.Ping message.now) result content }
 {

@@ -1,29 +1,30 @@
-//! Memory that is kept for the commands of consumers.
+//! Memory that is reserved for the commands of consumers.
 ghost use Rattle.std.specs.Prelude.{◌≡◌, ◌==◌, OnOk, not};
 
 use std::alloc::{AllocError, Global};
 use std::marker::Model;
 
-/// How many pieces a whole reserve has: 4 MiB of memory.
+/// The number of pieces of a full reserve: 4 MiB of memory.
 const PIECES: usize = 64;
 
-/// How many bytes a piece has. The C library maps greater ones by themselves, and gives them back to the system.
+/// The number of bytes of a piece. The C library maps larger ones by themselves, and gives them back to the system.
 const PIECE_BYTES: usize = 65_000;
 
-/// Up to so many bytes a reply has room in the pieces.
+/// The most bytes of a reply for which the pieces have room.
 const SMALL_REPLY: usize = 1 << 20;
 
-/// A buffer that grows while a reply is made may be copied into one of twice the bytes.
+/// A buffer that grows while a reply is made may be copied into one of twice its size.
 const GROWTH: usize = 3;
 
-/// Room for so many replies of the greatest entry is kept, so that two or three such entries may be in one reply.
+/// The number of replies of the greatest entry for which there is room, so two or three such entries may be in one
+/// reply.
 const REPLIES: usize = 2;
 
-/// How many bytes the name of a field and its value take in a reply beside their own, at most.
+/// The most bytes that the name of a field and its value take in a reply in addition to their own.
 const FIELD_BYTES: usize = 64;
 
-/// How many bytes it takes at most to make the reply of one entry with so many fields, whose names and values have so
-/// many bytes together.
+/// The most bytes that it takes to make the reply of one entry with `fields` fields, whose names and values have
+/// `bytes` bytes together.
 pub(crate) fn reply_bytes(fields: usize, bytes: u128) -> usize {
     let bytes = usize::try_from(bytes).unwrap_or(usize::MAX);
     fields
@@ -32,23 +33,23 @@ pub(crate) fn reply_bytes(fields: usize, bytes: u128) -> usize {
         .saturating_mul(GROWTH)
 }
 
-/// Memory that no command uses. It is made whole before each addition, and given back if a command of a consumer finds
-/// no memory; so when memory runs out, additions are refused first. A contract sees how many pieces it has.
+/// Memory that no command uses. It is filled before each addition, and given back if memory is refused for a command of
+/// a consumer. So if memory runs out, additions are refused first. A contract sees the number of its pieces.
 ///
-/// The reply of one entry always finds memory: if it takes more than the pieces are for, there is as much memory beside
-/// them. That room stays when the entry goes.
+/// The reply of one entry always gets memory: if it takes more than the pieces are for, as much memory is reserved
+/// besides them. That room stays when the entry is removed.
 #[derive(Drop)]
 pub(crate) struct Reserve {
     pieces: Vec<Vec<u8>>,
     // For the reply of the greatest entry.
     room: Vec<u8>,
-    // How many bytes the reply of the greatest entry takes that was added.
+    // The bytes of the reply of the greatest entry that was added.
     greatest: usize,
-    // It was given back, and isn't whole again yet.
+    // Whether it was given back, and isn't full again yet.
     is_lent: bool,
-    // How many bytes beside it are left to others.
+    // The number of bytes outside it that are left to others.
     left_free: usize,
-    // How many bytes of replies were added since the last look for them.
+    // The bytes of replies that were added since the last look for the bytes of others.
     unlooked: usize,
 }
 
@@ -63,7 +64,7 @@ impl Model for Reserve {
 }
 
 impl Reserve {
-    /// A reserve of no pieces. It takes no memory.
+    /// A reserve without pieces. It takes no memory.
     pub(crate) fn new(alloc: Global) -> Self
         ensures { result ≡ 0 }
     {
@@ -77,15 +78,15 @@ impl Reserve {
         }
     }
 
-    /// From now on it is filled only while so many bytes are free in one piece beside it.
+    /// Sets how many bytes have to be free in one piece outside it when it is filled.
     pub(crate) fn leave_free(&mut self, bytes: usize)
         ensures { self.new ≡ self.old }
     {
         self.left_free = bytes;
     }
 
-    /// Looks whether what is left to others is free, before an addition whose reply takes so many bytes: at the first
-    /// one, and then each time that a piece was added.
+    /// Checks that the bytes that are left to others are free, before an addition whose reply takes `reply_bytes`
+    /// bytes: at the first addition, and then each time that replies of a piece's size were added.
     fn look(&mut self, alloc: Global, reply_bytes: usize) -> Result<(), AllocError>
         ensures { self.new ≡ self.old }
     {
@@ -101,8 +102,8 @@ impl Reserve {
         Ok(())
     }
 
-    /// Makes it whole before an addition, for an entry too whose reply takes so many bytes. It is refused if what is
-    /// left to others isn't free. A refusal leaves the pieces that were found.
+    /// Fills it before an addition of an entry whose reply takes `reply_bytes` bytes. It is refused if the bytes that
+    /// are left to others aren't free. If memory runs out, the pieces that were added stay.
     pub(crate) fn admit(&mut self, alloc: Global, reply_bytes: usize) -> Result<(), AllocError>
         ensures { OnOk result (self.new ≡ 64) }
     {
@@ -110,7 +111,8 @@ impl Reserve {
         self.look(alloc, reply_bytes)
     }
 
-    /// Makes it whole, for an entry too whose reply takes so many bytes. A refusal leaves the pieces that were found.
+    /// Fills it, also for an entry whose reply takes `reply_bytes` bytes. If memory runs out, the pieces that were
+    /// added stay.
     fn fill(&mut self, alloc: Global, reply_bytes: usize) -> Result<(), AllocError>
         ensures { OnOk result (self.new ≡ 64) }
     {
@@ -127,26 +129,26 @@ impl Reserve {
         Ok(())
     }
 
-    /// Makes it whole again as far as memory is found, if it was given back.
+    /// Fills it again as far as memory is found, if it was given back.
     pub(crate) fn take_back(&mut self, alloc: Global) {
         if self.is_lent {
             let _ = self.fill(alloc, 0);
         }
     }
 
-    /// An entry was added whose reply takes so many bytes: from now on the reserve is whole only with room for it.
+    /// An entry was added whose reply takes `reply_bytes` bytes: from now on the reserve is full only with room for it.
     pub(crate) fn hold(&mut self, reply_bytes: usize)
         ensures { self.new ≡ self.old }
     {
         self.greatest = self.greatest.max(reply_bytes);
     }
 
-    /// How many bytes the reply of the greatest entry takes that was added.
+    /// The bytes of the reply of the greatest entry that was added.
     pub(crate) fn greatest(&self) -> usize {
         self.greatest
     }
 
-    /// Gives all its memory back, and says whether there was any.
+    /// Gives all its memory back. Returns whether there was any.
     pub(crate) fn give_back(&mut self, alloc: Global) -> bool
         ensures some { result ≡ not (self.old == 0) }
         ensures none { self.new ≡ 0 }

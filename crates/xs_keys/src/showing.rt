@@ -1,4 +1,4 @@
-//! What replies are made of: ids and entries, as the tokens that are appended for them.
+//! The parts of replies: ids and entries, as the tokens that are appended for them.
 ghost use Rattle.std.specs.Prelude.{◌≡◌, ◌++◌, IfOk, OnOk, map};
 ghost use Rattle.std.specs.List.{flat_map};
 ghost use Rattle.xs_stream.specs.StreamContent.{AreEntriesOf};
@@ -9,7 +9,7 @@ use std::alloc::{AllocError, Global};
 use xs_resp::{Replies, Reply, Tokens};
 use xs_stream::{Entry, Id, PackedFields, Stream};
 
-/// How many tokens an entry with one field has.
+/// The number of tokens of an entry with one field.
 pub const ENTRY_TOKENS: usize = 5;
 
 /// Appends an id.
@@ -36,7 +36,7 @@ fn push_fields(tokens: &mut Tokens, fields: PackedFields<'_>) -> Result<(), Allo
     Ok(())
 }
 
-/// Appends an entry: its id, and its fields, or the null array where it isn't in the stream.
+/// Appends an entry: its id, and its fields, or the null array if it isn't in the stream.
 fn push_entry(tokens: &mut Tokens, alloc: Global, stream: &Stream, id: Id) -> Result<(), AllocError>
     ensures { OnOk result (tokens.new ≡ tokens.old ++ tokens_of (entry_reply stream.now.entries id)) }
 {
@@ -57,8 +57,8 @@ pub fn push_present(tokens: &mut Tokens, alloc: Global, entry: &Entry<'_>) -> Re
     push_fields(tokens, entry.fields())
 }
 
-/// Appends the entry with this id, or its id with the null array. If it stands at this place among entries that are
-/// lent, it isn't looked up.
+/// Appends the entry with this id, or its id with the null array. If it is at this place among entries that are lent,
+/// it isn't looked up.
 pub fn push_along(
     tokens: &mut Tokens,
     alloc: Global,

@@ -8,7 +8,7 @@ use xs_command::{Command, Operands};
 use xs_resp::Reply;
 use xs_stream::Id;
 
-/// Takes these ids out of what is pending in a group, and says how many were.
+/// Removes these ids from the pending entries of a group. The reply is the number of those that were pending.
 pub fn acknowledge(keys: &mut Keys, key: &Bytes, group: &Bytes, ids: &Operands<Id>) -> Reply
     ensures { AppliedAtAnyTime keys.old (Command.Ack key.now group.now ids.now) result keys.new }
 {

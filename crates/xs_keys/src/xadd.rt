@@ -26,7 +26,7 @@ use xs_stream::{AddError, Field, Moment, Stream};
 enum NotAdded {
     /// It can't have an id.
     Id(AddError),
-    /// It can, and there is no memory.
+    /// It can have an id, but there is no memory.
     Memory(NoMemory),
 }
 
@@ -51,7 +51,7 @@ impl From<AllocError> for NotAdded {
     }
 }
 
-/// How many bytes the names and values of fields have: an entry takes at least as many.
+/// The number of bytes of the names and values of fields: an entry takes at least as many.
 pub(crate) fn bytes_of(fields: &[Field]) -> u128
     ensures { result ≡ bytes_of_fields fields.now }
 {
@@ -62,8 +62,8 @@ pub(crate) fn bytes_of(fields: &[Field]) -> u128
     bytes
 }
 
-/// Adds an entry to a stream and trims it then. The text of the id is made first, so that a refusal of
-/// memory leaves the stream as it was. The bound refuses it exactly if its fields are above the bound.
+/// Adds an entry to a stream and then trims it. The text of the id is made first, so the stream is unchanged if memory
+/// runs out. The bound refuses the addition exactly if its fields are above the bound.
 fn try_add(
     reserve: &mut Reserve,
     account: &Account,
@@ -114,7 +114,7 @@ fn fault_of_addition(error: AddError) -> Fault
     }
 }
 
-/// Adds an entry to a stream, and gives the reply.
+/// Adds an entry to a stream, and returns the reply.
 fn add_to(
     reserve: &mut Reserve,
     account: &mut Account,
@@ -137,7 +137,7 @@ fn add_to(
     }
 }
 
-/// Adds an entry to a key that isn't there, and makes the key where the command may.
+/// Adds an entry to a key that doesn't exist, and creates the key if the command may.
 fn add_missing(
     keys: &mut Keys,
     reserve: &mut Reserve,

@@ -25,7 +25,7 @@ fn push_id_array(tokens: &mut Tokens, alloc: Global, ids: &[Id]) -> Result<(), A
     push_ids(tokens, alloc, ids)
 }
 
-/// Appends the array of the entries that a claim took, or of their ids alone.
+/// Appends the array of the entries that a claim took, or only of their ids.
 fn push_taken(
     tokens: &mut Tokens,
     alloc: Global,
@@ -43,7 +43,7 @@ fn push_taken(
     push_entries(tokens, alloc, stream, ids)
 }
 
-/// Where to go on, what was taken, and the ids that were removed.
+/// The id where to go on, what was taken, and the ids that were removed.
 fn scan_shown(
     alloc: Global,
     stream: &Stream,
@@ -65,8 +65,8 @@ fn scan_shown(
     Ok(Reply::Array(Replies::new(3, tokens)))
 }
 
-/// Claims entries of a group from a start upwards. The reply is made before the claim is carried out, so
-/// that a refusal of memory leaves the group as it was.
+/// Claims entries of a group from a start upwards. The reply is made before the claim is carried out, so the group is
+/// unchanged if memory runs out.
 fn claim_in(
     group: &mut Group,
     alloc: Global,

@@ -25,7 +25,7 @@ fn ids_shown(alloc: Global, ids: &[Id]) -> Result<Reply, AllocError>
     Ok(Reply::Array(Replies::new(ids.len(), tokens)))
 }
 
-/// The entries that a claim took, or their ids alone.
+/// The entries that a claim took, or only their ids.
 fn taken_shown(
     alloc: Global,
     stream: &Stream,
@@ -40,8 +40,8 @@ fn taken_shown(
     entries_shown(alloc, stream, ids)
 }
 
-/// Claims entries of a group. The reply is made before the claim is carried out, so that a refusal of
-/// memory leaves the group as it was.
+/// Claims entries of a group. The reply is made before the claim is carried out, so the group is unchanged if memory
+/// runs out.
 fn claim_in(
     group: &mut Group,
     alloc: Global,

@@ -7,7 +7,7 @@ use xs_command::{Command, Operands};
 use xs_resp::Reply;
 use xs_stream::Id;
 
-/// Removes entries of a key, and says how many there were.
+/// Removes entries of a key. The reply is the number of those that existed.
 pub fn delete(keys: &mut Keys, key: &Bytes, ids: &Operands<Id>) -> Reply
     ensures { AppliedAtAnyTime keys.old (Command.Delete key.now ids.now) result keys.new }
 {

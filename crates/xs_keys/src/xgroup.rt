@@ -21,7 +21,7 @@ use xs_group::Group;
 use xs_resp::{Fault, Reply, Simple};
 use xs_stream::{Id, Moment, Stream};
 
-/// The id behind which a group starts, in a stream with this top.
+/// The id after which a group starts, in a stream with this top.
 fn start_id(start: GroupStart, top: Id) -> Id
     ensures { result ≡ starting_id start top }
 {
@@ -31,8 +31,8 @@ fn start_id(start: GroupStart, top: Id) -> Id
     }
 }
 
-/// Puts a new group among those of a key with this top, and says how many bytes it is counted with. The bound refuses
-/// it exactly if these are above the bound.
+/// Inserts a new group among those of a key with this top. Returns the number of bytes that it is counted with. The
+/// bound refuses it exactly if these are above the bound.
 fn insert_group(
     groups: &mut Groups,
     reserve: &mut Reserve,
@@ -78,8 +78,7 @@ fn first_groups(
     Ok(groups)
 }
 
-/// Puts a new key with its first group. Both come by one insertion, so that a refusal of memory leaves
-/// neither.
+/// Inserts a new key with its first group. Both come by one insertion, so neither is left if memory runs out.
 fn insert_key(
     keys: &mut Keys,
     reserve: &mut Reserve,
@@ -98,7 +97,7 @@ fn insert_key(
     Ok(())
 }
 
-/// Makes a group among those of a key with this top.
+/// Creates a group among those of a key with this top.
 fn create_in(
     groups: &mut Groups,
     reserve: &mut Reserve,
@@ -121,7 +120,7 @@ fn create_in(
     Ok(Reply::Simple(Simple::Okay))
 }
 
-/// Makes a group of a key that isn't there, and the key with it where the command may.
+/// Creates a group of a key that doesn't exist, and the key with it if the command may.
 fn create_missing(
     keys: &mut Keys,
     reserve: &mut Reserve,
@@ -165,7 +164,7 @@ pub fn create(
     }
 }
 
-/// 1 if it is so, else 0.
+/// 1 if `is` is true, else 0.
 fn one_where(is: bool) -> Reply
     ensures { result ≡ Reply.Int (if is then 1 else 0) }
 {
@@ -189,8 +188,8 @@ pub fn destroy(keys: &mut Keys, key: &Bytes, group: &Bytes) -> Reply
     }
 }
 
-/// Adds a consumer to a group, and says whether it is new. The bound refuses it exactly if it is new, and its name is
-/// above the bound.
+/// Adds a consumer to a group, and returns whether it is new. The bound refuses it exactly if it is new, and its name
+/// is above the bound.
 fn add_consumer(
     account: &Account,
     alloc: Global,

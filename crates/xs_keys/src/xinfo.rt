@@ -22,7 +22,7 @@ use xs_group::{ConsumerReport, Group};
 use xs_resp::{Fault, Replies, Reply, Tokens};
 use xs_stream::{Entry, Id, Moment, Range, Stream};
 
-/// How many tokens a stream has, beside the fields of its ends.
+/// The number of tokens of a stream, without the fields of its ends.
 const STREAM_TOKENS: usize = 28;
 
 /// All ids.
@@ -31,10 +31,10 @@ pub(crate) const WHOLE: Range = Range {
     high: Id::GREATEST,
 };
 
-/// How many tokens a group has.
+/// The number of tokens of a group.
 const GROUP_TOKENS: usize = 13;
 
-/// A number as it is told: the greatest of 63 bits in place of a greater one.
+/// A number as it is reported: one above 63 bits as the greatest of 63 bits.
 fn told_number(number: u128) -> u64
     ensures value { result ≡ min number greatest_count }
     ensures small { result < 2 ^ 63 }
@@ -51,7 +51,7 @@ pub(crate) fn push_number(tokens: &mut Tokens, name: &[u8], number: u64) -> Resu
     tokens.push_int(U63::new(number))
 }
 
-/// Appends a group's name, and how many consumers and pending entries it has.
+/// Appends a group's name, and the numbers of its consumers and of its pending entries.
 fn push_members(tokens: &mut Tokens, name: &Bytes, group: &Group) -> Result<(), AllocError>
     ensures { OnOk result (tokens.new ≡ tokens.old ++ flat_map tokens_of (members_part (name.now, group.now))) }
 {
@@ -61,8 +61,8 @@ fn push_members(tokens: &mut Tokens, name: &Bytes, group: &Group) -> Result<(), 
     push_number(tokens, b"pending", group.count_pending())
 }
 
-/// Appends how many entries a group with this cursor has behind it, or the null string if it tells no number. So many are
-/// past the cursor.
+/// Appends the number of entries ever added up to the cursor of a group, or the null string if the cursor gives no
+/// number. `lag` entries are above the cursor.
 fn push_read(tokens: &mut Tokens, stream: &Stream, cursor: Id, lag: u64) -> Result<(), AllocError>
     requires { lag ≡ lag_of (state_of stream.now) cursor }
     ensures { OnOk result (tokens.new ≡ tokens.old ++ tokens_of (read_reply (state_of stream.now) cursor)) }
@@ -74,7 +74,7 @@ fn push_read(tokens: &mut Tokens, stream: &Stream, cursor: Id, lag: u64) -> Resu
     tokens.push_int(U63::new(told_number(read)))
 }
 
-/// Appends how far a group with this cursor has come in a stream.
+/// Appends the progress of a group with this cursor in a stream.
 pub(crate) fn push_progress(
     tokens: &mut Tokens,
     alloc: Global,
@@ -139,7 +139,7 @@ pub fn groups(keys: &Keys, alloc: Global, key: &Bytes) -> Result<Reply, AllocErr
     groups_shown(alloc, slot)
 }
 
-/// How many tokens a consumer has.
+/// The number of tokens of a consumer.
 const CONSUMER_TOKENS: usize = 7;
 
 /// Appends a consumer.
@@ -212,7 +212,7 @@ fn push_end(tokens: &mut Tokens, alloc: Global, end: &List<Entry<'_>>) -> Result
     }
 }
 
-/// Appends how many entries a stream has.
+/// Appends the number of entries of a stream.
 pub(crate) fn push_size(tokens: &mut Tokens, stream: &Stream) -> Result<(), AllocError>
     ensures { OnOk result (tokens.new ≡ tokens.old ++ flat_map tokens_of (size_part stream.now.entries)) }
 {
@@ -223,7 +223,7 @@ pub(crate) fn push_size(tokens: &mut Tokens, stream: &Stream) -> Result<(), Allo
     push_number(tokens, b"radix-tree-nodes", nodes + 1)
 }
 
-/// Appends what a stream ever had, and the id of its first entry.
+/// Appends the past of a stream, and the id of its first entry.
 pub(crate) fn push_past(
     tokens: &mut Tokens,
     alloc: Global,
@@ -243,7 +243,7 @@ pub(crate) fn push_past(
     push_id(tokens, alloc, first)
 }
 
-/// Appends how many groups a stream has, and its ends.
+/// Appends the number of groups of a stream, and its ends.
 fn push_ends(
     tokens: &mut Tokens,
     alloc: Global,
@@ -271,7 +271,7 @@ pub(crate) fn first_id(entries: &List<Entry<'_>>) -> Id
     }
 }
 
-/// What a stream is.
+/// The reply about a stream.
 fn stream_shown(alloc: Global, slot: &Slot) -> Result<Reply, AllocError>
     ensures { IfOk result (λ reply. reply ≡ stream_reply (key_state_of slot.now)) }
 {

@@ -22,10 +22,10 @@ use xs_group::{ConsumerReport, Group, PendingRow};
 use xs_resp::{Fault, Replies, Reply, Tokens};
 use xs_stream::{Entry, Moment, Stream};
 
-/// How many tokens a stream has, beside its entries and groups.
+/// The number of tokens of a stream, without its entries and groups.
 const STREAM_TOKENS: usize = 20;
 
-/// What is asked for: at most so many of each list, at a moment.
+/// The arguments: at most `limit` of each list, at a moment.
 #[derive(Clone, Copy)]
 struct Asked {
     alloc: Global,
@@ -34,7 +34,7 @@ struct Asked {
 }
 
 impl Asked {
-    /// At most how many rows.
+    /// The most rows.
     fn most(&self) -> u64
         ensures { result ≡ most_of self.now.limit }
     {
@@ -63,7 +63,7 @@ fn push_rows(tokens: &mut Tokens, alloc: Global, rows: Vec<PendingRow>) -> Resul
     Ok(())
 }
 
-/// Appends how many rows a group has, and the first of them.
+/// Appends the number of rows of a group, and the first of them.
 fn push_group_rows(tokens: &mut Tokens, asked: &Asked, group: &Group) -> Result<(), AllocError>
     ensures { let first = first_rows asked.now.moment asked.now.limit None group.now in
         OnOk result (tokens.new ≡ tokens.old ++ flat_map tokens_of (rows_part (length group.now.rows.entries) first)) }
@@ -223,7 +223,7 @@ fn push_entries_part(
     push_lent_entries(tokens, alloc, entries)
 }
 
-/// What a stream is, with its first entries and its groups.
+/// The reply about a stream, with its first entries and its groups.
 fn stream_shown(asked: &Asked, slot: &Slot) -> Result<Reply, AllocError>
     ensures { IfOk result (λ reply. reply
         ≡ whole_stream_reply asked.now.moment asked.now.limit (key_state_of slot.now)) }

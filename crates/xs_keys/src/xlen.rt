@@ -6,7 +6,7 @@ use xs_bytes::{Bytes, U63};
 use xs_command::Command;
 use xs_resp::Reply;
 
-/// How many entries a key has.
+/// The number of entries of a key.
 pub fn len(keys: &Keys, key: &Bytes) -> Reply
     ensures { AppliedAtAnyTime keys.now (Command.Len key.now) result keys.now }
 {

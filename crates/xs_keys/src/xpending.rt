@@ -16,16 +16,16 @@ use xs_group::{Group, GroupSummary, OwnerCount, PendingRow};
 use xs_resp::{Fault, Replies, Reply, Tokens};
 use xs_stream::{Id, Moment};
 
-/// How many tokens the short form has beside its consumers.
+/// The number of tokens of the short form, without its consumers.
 const SUMMARY_TOKENS: usize = 4;
 
-/// How many tokens a consumer and its count have.
+/// The number of tokens of a consumer and its count.
 const OWNER_TOKENS: usize = 3;
 
-/// How many tokens a row of the long form has.
+/// The number of tokens of a row of the long form.
 const ROW_TOKENS: usize = 5;
 
-/// Appends an id, or the null string where there is none.
+/// Appends an id, or the null string if there is none.
 fn push_id_or_null(tokens: &mut Tokens, alloc: Global, id: Option<Id>) -> Result<(), AllocError>
     ensures { OnOk result (tokens.new ≡ tokens.old
         ++ tokens_of (option_map_or id_reply id Reply.NullBulk)) }
@@ -114,7 +114,7 @@ fn rows_shown(alloc: Global, rows: Vec<PendingRow>) -> Result<Reply, AllocError>
     Ok(Reply::Array(Replies::new(count, tokens)))
 }
 
-/// What is pending in a group, told in short.
+/// What is pending in a group, in the short form.
 fn summary_of(alloc: Global, group: &Group) -> Result<Reply, AllocError>
     ensures { IfOk result (λ reply. reply ≡ summary_reply (report.summary_of group.now)) }
 {

@@ -25,7 +25,7 @@ use xs_group::{Delivery, Group, GroupRead};
 use xs_resp::{Fault, Replies, Reply, Tokens};
 use xs_stream::{Id, Moment, Stream};
 
-/// A read of one group: what takes it back, and how many parts of the reply it has, none or one.
+/// A read of one group: what undoes it, and the number of its parts of the reply, none or one.
 #[derive(Drop)]
 pub struct Served {
     pub delivery: Delivery,
@@ -93,7 +93,7 @@ fn push_stream(
     push_rows(tokens, alloc, stream, group_read)
 }
 
-/// Appends a read's part of the reply, and says how many parts that is: nothing new has none.
+/// Appends a read's part of the reply, and returns the number of parts: a read without new entries has none.
 fn push_part(
     tokens: &mut Tokens,
     alloc: Global,
@@ -113,8 +113,7 @@ fn push_part(
     Ok(1)
 }
 
-/// Serves one read among the keys, and appends its part of the reply. If there is no memory for that, the read is taken
-/// back.
+/// Serves one read among the keys, and appends its part of the reply. If memory runs out for that, the read is undone.
 fn serve_at(
     keys: &mut Keys,
     alloc: Global,
@@ -145,7 +144,7 @@ fn serve_at(
     }
 }
 
-/// Takes a read of a group of one of these keys back, where it was the last one.
+/// Undoes a read of a group of one of these keys, if it was the last one.
 fn undo_at(keys: &mut Keys, key: &Bytes, group: &Bytes, delivery: Delivery)
     requires { (before : Content) × IsMadeAt group.now key.now before keys.old delivery }
     ensures { (before : Content) → IsMadeAt group.now key.now before keys.old delivery → keys.new ≡ before }
@@ -156,7 +155,7 @@ fn undo_at(keys: &mut Keys, key: &Bytes, group: &Bytes, delivery: Delivery)
     keys.account.change(before, group.room());
 }
 
-/// Takes reads back, the last first.
+/// Undoes reads, the last first.
 fn undo_all(keys: &mut Keys, reads: &[ReadOne], group: &Bytes, deliveries: Vec<Delivery>)
     requires { (first : Content) × AreMade group.now reads.now deliveries.items first keys.old }
     ensures { (first : Content) → AreMade group.now reads.now deliveries.items first keys.old → keys.new ≡ first }
@@ -167,7 +166,7 @@ fn undo_all(keys: &mut Keys, reads: &[ReadOne], group: &Bytes, deliveries: Vec<D
     }
 }
 
-/// Serves the reads one after the other. Where memory runs out, all of them are taken back.
+/// Serves the reads one after the other. If memory runs out, all of them are undone.
 fn serve_all(
     keys: &mut Keys,
     alloc: Global,
@@ -201,7 +200,7 @@ fn serve_all(
     Ok(Reply::Array(Replies::new(parts, tokens)))
 }
 
-/// Each key and group of a read is there.
+/// Whether each key and group of a read exists.
 fn all_there(keys: &Keys, read: &ReadGroupCommand) -> bool
     ensures { result ≡ has_all_groups_in keys.now read.now }
 {
@@ -228,7 +227,7 @@ pub fn read(
     serve_all(keys, alloc, now, read)
 }
 
-/// One, unless the limit is zero: the first new entry says whether a read delivers any.
+/// One, unless the limit is zero: the first new entry shows whether a read delivers any.
 fn at_most_one(limit: Option<u64>) -> Option<u64>
     ensures { result ≡ at_most_one limit }
 {
@@ -254,7 +253,7 @@ fn has_none_past(
     Ok(first.is_empty())
 }
 
-/// Whether one key is read from `>`, the group is there, and nothing is new to it.
+/// Whether one key is read from `>`, the group exists, and nothing is new to it.
 fn finds_none(
     keys: &Keys,
     alloc: Global,
@@ -275,8 +274,8 @@ fn finds_none(
     has_none_past(&slot.stream, alloc, group.cursor(), read.limit)
 }
 
-/// Whether each key is read from `>`, each group is there, and nothing is new to any. Memory is taken only at a key
-/// that has something new.
+/// Whether each key is read from `>`, each group exists, and nothing is new to any. Memory is taken only for a key that
+/// has something new.
 pub fn finds_nothing(
     keys: &Keys,
     alloc: Global,

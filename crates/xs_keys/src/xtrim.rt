@@ -7,7 +7,7 @@ use xs_command::Command;
 use xs_resp::Reply;
 use xs_stream::Trim;
 
-/// Trims the stream of a key, and says how many entries went.
+/// Trims the stream of a key. The reply is the number of entries that were removed.
 pub fn trim(keys: &mut Keys, key: &Bytes, trim: Trim) -> Reply
     ensures { AppliedAtAnyTime keys.old (Command.TrimTo key.now trim) result keys.new }
 {

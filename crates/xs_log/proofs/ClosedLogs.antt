@@ -13,7 +13,7 @@ closed-of : (number : ℕ) (bytes : List ℕ) (events : List Event) (requests : 
 closed-of number bytes events [] whole e some bytes_are can is = absurd (some e)
 closed-of number bytes events (header ∷ records) whole e some bytes_are can is = record { header = header; records = records; bytes_are = bytes_are; spelled = can; is_log = is }
 
--- nothing stands behind the whole requests
+-- nothing follows the complete requests
 pub closed : (number : ℕ) (bytes : List ℕ) (events : List Event) (whole part : ℕ) → HasEvents number bytes events whole part → whole ≢ 0 → part ≡ 0 → IsClosedLog number bytes events
 closed number bytes events whole part has some none =
     let rest : has.rest ≡ [] = nil_from_length has.rest (sym has.part_is ∙ none) in
@@ -23,7 +23,7 @@ pub closed-part : (number : ℕ) (bytes : List ℕ) (events : List Event) → Is
 closed-part number bytes events is =
     record { requests = is.header ∷ is.records; events = events; more = []; spelled = is.spelled; is_log = is.is_log; written = append-nil bytes ∙ is.bytes_are }
 
--- a log that was written whole has a header and no part
+-- a log that was written completely has a header and no part
 pub closed-whole : (number : ℕ) (bytes : List ℕ) (events found : List Event) (whole part : ℕ) → IsClosedLog number bytes events → HasEvents number bytes found whole part → (whole ≢ 0) × (part ≡ 0)
 closed-whole number bytes events found whole part is has =
     let requests = is.header ∷ is.records in

@@ -27,7 +27,7 @@ known-whole (Some xs) bytes (Some rest) read e consumes end =
 pub read-whole : (old : Passing) (bytes : List ℕ) (new : Passing) (read : List ℕ) → old.known ≡ Some bytes → Consumes old new read → IsAtEnd new → read ≡ bytes
 read-whole old bytes new read e consumes end = known-whole old.known bytes new.known read e consumes.0 end
 
--- what stands before the first zero is a beginning of the log
+-- the bytes before the first zero are a beginning of the log
 pub part-left : (number : ℕ) (requests : List (List (List ℕ))) (events : List Event) (kept : ℕ) (left : List ℕ) → AllByRecursion CanBeSpelled requests → IsLog number requests events
     → CrashLeaves kept (spellings requests) left → IsPartOfLog number (before_zero left)
 part-left number requests events kept left can is leaves =

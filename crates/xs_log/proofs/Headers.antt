@@ -5,7 +5,7 @@ use Rattle.xs_tape.specs.Records.{with_checksum, with_size}
 use Rattle.xs_replay.specs.Log.{model_number, header_words}
 use Rattle.xs_log.proofs.PlainWords.{not_checked, same_parts}
 
--- what stands behind a header's name
+-- the words after a header's name
 abbrev pub behind_name : ℕ → List (List ℕ)
 behind_name number = codes "2" ∷ decimal number ∷ decimal model_number ∷ []
 

@@ -32,7 +32,7 @@ may-more rest number (one ∷ readers) reader events more (first, others, closed
       may-more rest (suc number) readers reader others more may (λ bytes known. subst (λ n. IsClosedLog n bytes more) here (is bytes known)),
     )
 
--- the log behind so many
+-- the log after this many
 pub give-at : {R : Type 0} (rest : R → Option (List ℕ)) (number : ℕ) (readers : List R) (reader : R) (behind : List R) (events : List Event) → GiveClosedLogs rest number (readers ++ reader ∷ behind) events
     → (bytes : List ℕ) × (found : List Event) × (rest reader ≡ Some bytes) × IsClosedLog (number + length readers) bytes found
 give-at rest number [] reader behind events (bytes, first, others, known, closed, joined, more) =

@@ -12,7 +12,7 @@ use Rattle.xs_log.specs.SnapshotReading.{MayStandBehind}
 use Rattle.xs_log.proofs.PlainWords.{not_checked, record_parts, parts_record}
 use Rattle.xs_log.proofs.SnapshotPlaces.{kind_is_no_end}
 
--- a record that may stand has its size
+-- a record that is possible there has its size
 pub size_missing : (sent : List (List ℕ)) (count : ℕ) → ((words : List (List ℕ)) → sent ≢ with_size (map escaped words)) → MayStandBehind count sent → ⊥
 size_missing sent count none (inl end) = none (with_checksum (codes "END") (decimal count ∷ [])) end
 size_missing sent count none (inr piece) = none (with_checksum (kind_of piece.0) (values_of piece.0)) piece.2
@@ -22,14 +22,14 @@ pub sum_missing : (sent items slice : List (List ℕ)) (count : ℕ) → sent �
 sum_missing sent items slice count e f none (inl end) = none (codes "END") (decimal count ∷ []) (f ∙ not_checked sent items (decimal count ∷ []) (codes "END") e end)
 sum_missing sent items slice count e f none (inr piece) = none (kind_of piece.0) (values_of piece.0) (f ∙ not_checked sent items (values_of piece.0) (kind_of piece.0) e piece.2)
 
--- an end of another count may not stand
+-- an end with another count isn't possible
 pub other_count : (sent items slice rest : List (List ℕ)) (first : List ℕ) (count : ℕ) → sent ≡ with_size (map escaped items) → slice ≡ items → slice ≡ with_checksum first rest → first ≡ codes "END" → rest ≢ decimal count ∷ []
     → MayStandBehind count sent → ⊥
 other_count sent items slice rest first count e f g end not (inl is) = not (record_parts sent items slice rest (decimal count ∷ []) first (codes "END") e f g is).1
 other_count sent items slice rest first count e f g end not (inr piece) =
     kind_is_no_end piece.0 (sym (record_parts sent items slice rest (values_of piece.0) first (kind_of piece.0) e f g piece.2).0 ∙ end)
 
--- words that say no piece may not
+-- words that spell no piece aren't possible
 pub no_piece : (sent items slice rest : List (List ℕ)) (first : List ℕ) (count : ℕ) → sent ≡ with_size (map escaped items) → slice ≡ items → slice ≡ with_checksum first rest → first ≢ codes "END" → None ≡ piece_of_words (first ∷ rest)
     → MayStandBehind count sent → ⊥
 no_piece sent items slice rest first count e f g end none (inl is) = end (record_parts sent items slice rest (decimal count ∷ []) first (codes "END") e f g is).0

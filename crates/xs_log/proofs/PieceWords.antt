@@ -1,4 +1,4 @@
--- Words that say a key.
+-- Words that spell a key.
 use Rattle.std.proofs.Common.{◌≡◌, ℕ, List, [], ◌∷◌, length, Some, refl, sym, ap, ◌∙◌, arith}
 use Rattle.std.proofs.Math.ListN.{get_or}
 use Rattle.xs_stream.specs.declared.id.Id.{Id}

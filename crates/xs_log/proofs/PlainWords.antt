@@ -19,7 +19,7 @@ word_more sent words next left behind text word e f g n =
 pub words_done : (sent words left : List (List ℕ)) → sent ≡ map escaped words ++ left → left ≡ [] → sent ≡ map escaped words
 words_done sent words left e f = e ∙ ap (λ l. map escaped words ++ l) f ∙ append-nil (map escaped words)
 
--- a word that isn't escaped stands in no escaped words
+-- a text that isn't an escaped word is not among escaped words
 no-words : (words behind all : List (List ℕ)) (text : List ℕ) → ((plain : List ℕ) → text ≢ escaped plain) → map escaped words ++ (text ∷ behind) ≢ map escaped all
 no-words [] behind [] text none e = absurd (cc)
 no-words [] behind (one ∷ all) text none e = none one (cc)
@@ -29,7 +29,7 @@ no-words (w ∷ words) behind (one ∷ all) text none e = no-words words behind 
 pub not_escaped : (sent words left behind all : List (List ℕ)) (text : List ℕ) → sent ≡ map escaped words ++ left → left ≡ text ∷ behind → ((plain : List ℕ) → text ≢ escaped plain) → sent ≢ map escaped all
 not_escaped sent words left behind all text e f none is = no-words words behind all text none (sym (e ∙ ap (λ l. map escaped words ++ l) f) ∙ is)
 
--- words behind a size
+-- words after a size
 pub of_size : {A E : Type 0} (result : Result A E) (items_of : A → List (List ℕ)) (sent behind : List (List ℕ)) → sent ≡ with_size behind → IfOk result (λ words. behind ≡ map escaped (items_of words))
     → IfOk result (λ words. sent ≡ with_size (map escaped (items_of words)))
 of_size (Err fault) items_of sent behind e f = tt
@@ -47,12 +47,12 @@ not_checked sent words plain first e is =
 pub same_parts : (first other : List ℕ) (rest others : List (List ℕ)) → with_checksum first rest ≡ with_checksum other others → (first ≡ other) × (rest ≡ others)
 same_parts first other rest others e = (cc, cc)
 
--- no command has no words
+-- no words spell no command
 pub no_command : {A : Type 0} (event : Event) → command_of_words [] ≡ Ok event.1 → A
 unfolding command_of_words word
 no_command event e = absurd (cc (e))
 
--- what the parts of a record are
+-- the parts of a record of an event
 pub parts_are : (sent items slice rest : List (List ℕ)) (first : List ℕ) (event : Event) → sent ≡ with_size (map escaped items) → slice ≡ items → slice ≡ with_checksum first rest → IsRecordOf sent event
     → (first ≡ decimal event.0) × (command_of_words rest ≡ Ok event.1)
 parts_are sent items slice rest first event e f g is =

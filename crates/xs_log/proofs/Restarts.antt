@@ -93,7 +93,7 @@ given-unique rest number (reader ∷ readers) (bytes ∷ closed) events others e
 
 -- ---- a beginning of the events
 
--- what stands before the first zero is the front of a file
+-- the bytes before the first zero are the front of a file
 front-of : (file : List ℕ) (n : ℕ) → n ≤ length (before_zero file) → take n file ≡ take n (before_zero file)
 front-of file n le =
     let split = before-front file in
@@ -111,7 +111,7 @@ front-of file n le =
 pub front-of-events : (events before last : List Event) (count : ℕ) → events ≡ before ++ last → take (length before + count) events ≡ before ++ take count last
 front-of-events events before last count e = ap (take (length before + count)) e ∙ take-append-add before last count
 
--- the file, cut behind what is whole
+-- the file, cut after its complete records
 cut-logs : (tape : TapeBytes) (before last : List Event) (file : List ℕ) (whole part : ℕ) → AreClosedLogs 1 tape.closed before → HasEvents (suc (length tape.closed)) (before_zero file) last whole part
     → AreLogs (suc (length tape.closed)) (record { closed = tape.closed; written = take whole file; kept = whole }) (before ++ last)
 cut-logs tape before last file whole part are has =

@@ -1,4 +1,4 @@
--- What is said of results.
+-- Facts about results.
 use Rattle.std.specs.Prelude.{◌⊎◌, Result, Ok, Err, IfOk, IfErr, OnErr, MatchResult}
 use Rattle.std.proofs.Common.{inr}
 

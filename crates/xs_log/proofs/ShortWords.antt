@@ -34,7 +34,7 @@ number-short n small = length-decimal-le 20 n (omega arith) (omega (arith, small
 pub number_short : (n : ℕ) → n < 2 ^ 64 → AreShort (decimal n ∷ [])
 number_short n small = record { few = omega arith; short = (omega (arith, number-short n small), tt) }
 
--- and so is a header
+-- and a header is
 pub header_short : (number : ℕ) (moment : Option ℕ) → number < 2 ^ 64 → MomentFits moment → AreShort (header_values number moment)
 header_short number None small fits = record { few = omega arith; short = (omega arith, (omega (arith, number-short number small), (omega (arith, number-short 1 (omega arith)), tt))) }
 header_short number (Some moment) small fits =

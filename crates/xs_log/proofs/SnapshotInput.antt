@@ -40,7 +40,7 @@ taken_fed first now next held after done got t consumes fed = record {
   spelled = t.spelled;
 }
 
--- a look that answers changes nothing
+-- a look that succeeds changes nothing
 pub taken_same : (first now : Passing) (held next : Held) (done : Requests) (result : Result Bool ReadFault) (b : Bool) → HasTaken first now held done → Ready held result next → result ≡ Ok b → HasTaken first now next done
 taken_same first now held next done result b t ready e = subst (λ h. HasTaken first now h done) (sym (ready_same held result next b ready e)) t
 
@@ -61,7 +61,7 @@ taken_more first now held next done words bytes found t holds read left is some 
       spelled = all-more done words t.spelled (subst CanBeSpelled is front.0);
     }
 
--- ---- a source that has requests alone
+-- ---- a source that has only requests
 
 known-split : (old new : Option (List ℕ)) (bytes seen : List ℕ) → old ≡ Some bytes → std.Consumes old new seen → (more : List ℕ) × (seen ++ more ≡ bytes)
 known-split None new bytes seen e consumes = absurd (cc (e))
@@ -80,13 +80,13 @@ left-of first now held done written t gives =
     let split = known-split first.known now.known (spellings written) t.seen gives.known_is t.consumes.0 in
     record { more = split.0; behind = behind done written t.seen t.rest split.0 t.spelled gives.spelled t.seen_is split.1 }
 
--- the requests behind those that were taken
+-- the requests after those that were taken
 pub others_behind : (first now : Passing) (held : Held) (done written : Requests) → HasTaken first now held done → Gives first written → (others : Requests) × (written ≡ done ++ others)
 others_behind first now held done written t gives =
     let left = left-of first now held done written t gives in
     (left.behind.others, left.behind.split)
 
--- no fault is met
+-- there is no fault
 pub no_fault_taken : (first now : Passing) (held next : Held) (done written : Requests) (result : Result Bool ReadFault) (fault : ReadFault) → HasTaken first now held done → Gives first written → Ready held result next → result ≡ Err fault → ⊥
 no_fault_taken first now held next done written result fault t gives ready e =
     let left = left-of first now held done written t gives in
@@ -152,7 +152,7 @@ record_taken (Some piece) first now next done count sent taken is = (taken (piec
 
 -- ---- the end of a source
 
--- no request stands behind all
+-- no request follows all of them
 pub none_behind : (first now : Passing) (held : Held) (done : Requests) → HasTaken first now held done → Gives first done → HasNext held → ⊥
 none_behind first now held done t gives next =
     let left = left-of first now held done done t gives in
@@ -163,7 +163,7 @@ none_behind first now held done t gives next =
     let later : request (t.rest ++ left.more) ≡ Ok (Some front.found) = subst (λ o. Keeps o (request (t.rest ++ left.more))) (ap request same ∙ front.read) (request-keeps t.rest left.more) in
     absurd (cc (later, ap request text, nothing-there))
 
--- something does, if not all was taken
+-- one follows, if not all were taken
 pub not_all : (done others : Requests) (words : List (List ℕ)) → done ++ words ∷ others ≢ done
 not_all done others words e =
     let none : words ∷ others ≡ [] = append_cancel_left done (words ∷ others) [] (e ∙ sym (append-nil done)) in
@@ -176,13 +176,13 @@ not-false false e = absurd (cc (e))
 nothing-held : (bytes : List ℕ) → holds_bytes (Ok bytes) ≡ false → bytes ≡ []
 nothing-held bytes e = nil_from_length bytes (eqb-true (length bytes) 0 (not-false (length bytes == 0) e))
 
--- where nothing is held, what was read is the requests
+-- if nothing is held, the requests are all that was read
 pub all_read : (first now : Passing) (held : Held) (done : Requests) → HasTaken first now held done → holds_bytes held ≡ false → Consumes first now (spellings done)
 all_read first now held done t none =
     let rest : t.rest ≡ [] = nothing-held t.rest (ap holds_bytes (sym t.holds) ∙ none) in
     subst (λ b. Consumes first now b) (t.seen_is ∙ ap (λ r. spellings done ++ r) rest ∙ append-nil (spellings done)) t.consumes
 
--- nothing is held behind all
+-- nothing is held after all of them
 pub none_held : (first now : Passing) (held : Held) (done : Requests) (rest : List ℕ) → HasTaken first now held done → Gives first done → IsAtEnd now → held ≡ Ok rest → request rest ≡ Ok None → holds_bytes held ≡ false
 none_held first now held done rest t gives end holds none =
     let all = all_taken first now held done done rest t gives end holds none in

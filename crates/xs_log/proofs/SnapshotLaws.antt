@@ -51,7 +51,7 @@ same-piece one other fits may e =
     let some : Some one ≡ Some other = sym (piece-back one fits) ∙ ap piece_of_words words ∙ piece-back other may in
     cc
 
--- pieces up to an end are the same pieces, and nothing stands behind the end
+-- pieces up to an end are the same pieces, and nothing follows the end
 same-pieces : (ones others : List Piece) (n m : ℕ) (rest : Requests) → AllByRecursion Fits ones → AllByRecursion Fits others → map piece_record others ++ end_record m ∷ [] ≡ map piece_record ones ++ end_record n ∷ rest
     → (ones ≡ others) × (rest ≡ [])
 same-pieces [] [] n m rest fits may e = (refl, cc)

@@ -1,4 +1,4 @@
--- What is put of a snapshot.
+-- The parts of a snapshot that were put.
 use Rattle.std.proofs.Common.{◌≡◌, ℕ, ◌+◌, ◌^◌, ◌<◌, false, List, [], ◌∷◌, ◌++◌, length, decimal, codes, Option, Some, None, refl, sym, ap, ◌∙◌, subst, arith, length-append}
 use Rattle.std.proofs.lemmas.List.{append-nil, map-append}
 use Rattle.std.specs.Prelude.{Bool, Result, Ok, Err, OnOk}
@@ -18,7 +18,7 @@ empty-on : (closed : List (List ℕ)) (holds : Option TapeBytes) → IsEmptyFile
 empty-on closed None is = tt
 empty-on closed (Some tape) is = subst (λ (t : TapeBytes). IsOnTape false [] t closed [] 0) (sym is) (record { closed_is = refl; text_is = refl; kept_is = omega arith; within = omega arith })
 
--- nothing is on an empty file
+-- an empty file has nothing
 pub empty_has : (closed : List (List ℕ)) (writing : Writing) (broken : Bool) (holds : Option TapeBytes) → writing ≡ record { broken = broken; holds = holds; pending = [] } → broken ≡ false → IsEmptyFile closed holds → Has writing closed [] 0
 empty_has closed writing broken holds e sound is =
     subst (λ (w : Writing). Has w closed [] 0) (sym (e ∙ ap (λ b. record { broken = b; holds = holds; pending = [] }) sound)) (empty-on closed holds is)

@@ -1,4 +1,4 @@
--- Which record stands behind the first ones of a snapshot.
+-- Which record follows the first ones of a snapshot.
 use Rattle.std.proofs.Common.{◌≡◌, ◌≢◌, inl, inr, ℕ, ◌+◌, List, [], ◌∷◌, ◌++◌, map, length, decimal, codes, bytes_eq, false, refl, sym, ap, ◌∙◌, arith}
 use Rattle.std.proofs.lemmas.Bool.{false≢true}
 use Rattle.std.specs.List.{AllByRecursion}
@@ -28,7 +28,7 @@ no_end piece count e =
     let same = same-plain (kind_of piece) (codes "END") (values_of piece) (decimal count ∷ []) e in
     kind_is_no_end piece same.0
 
--- what stands behind pieces
+-- what follows pieces
 pub record Place (count : ℕ) (others : Requests) : Type 0 where
   pub words : List (List ℕ)
   pub more : Requests
@@ -49,7 +49,7 @@ place-of (q ∷ pieces) (p ∷ all) others n count fits size e =
     let less : length all + count ≡ length pieces + n = omega arith in
     place-of pieces all others n count fits.1 less behind
 
--- nothing stands behind an end
+-- nothing follows an end
 pub end_last : (pieces all : List Piece) (others : Requests) (n count : ℕ) → map piece_record all ++ end_record n ∷ [] ≡ map piece_record pieces ++ end_record count ∷ others → others ≡ []
 end_last [] [] others n count e = cc
 end_last [] (p ∷ all) others n count e =

@@ -18,7 +18,7 @@ use Rattle.xs_log.proofs.SnapshotOutput.{front-more, fits-more}
 pub gives_all : (first : Passing) (number : ℕ) (bytes : List ℕ) (moment : Option ℕ) (pieces : List Piece) → first.known ≡ Some bytes → HasPieces number bytes moment pieces → Gives first (all_records number moment pieces)
 gives_all first number bytes moment pieces known is = record { known_is = known ∙ ap (λ b. Some b) is.bytes_are; spelled = is.spelled }
 
--- behind pieces it goes on
+-- after pieces it goes on
 pub record GoesOn (first : Passing) (done : List (List (List ℕ))) (count : ℕ) : Type 0 where
   pub words : List (List ℕ)
   pub others : List (List (List ℕ))
@@ -34,7 +34,7 @@ goes_on number count first now held moment last pieces all taken gives fits size
     let place = place-of pieces all rest.0 (length all) count fits (omega (arith, size)) tail in
     record { words = place.words; others = place.more; gives = subst (Gives first) (rest.1 ∙ ap (λ o. done ++ o) place.split) gives; may = place.may }
 
--- behind the end it doesn't
+-- after the end it doesn't
 pub ends_there : (number count : ℕ) (first now : Passing) (held : Held) (moment last : Option ℕ) (pieces all : List Piece) → HasTaken first now held (front_records number moment pieces ++ end_record count ∷ []) → Gives first (all_records number last all)
     → Gives first (front_records number moment pieces ++ end_record count ∷ [])
 ends_there number count first now held moment last pieces all taken gives =

@@ -34,7 +34,7 @@ ready-of bytes (Ok (Some found)) result new b r e = r.1
 ready-of bytes (Ok None) result new b r e = r.1
 ready-of bytes (Err wrong) result new b r e = absurd (cc (r.0))
 
--- a look that answers changes nothing
+-- a look that succeeds changes nothing
 pub ready_same : (old : Held) (result : Result Bool ReadFault) (new : Held) (b : Bool) → Ready old result new → result ≡ Ok b → new ≡ old
 ready_same (Ok bytes) result new b r e = ready-of bytes (request bytes) result new b r e
 ready_same (Err wrong) result new b r e = absurd (cc (r.0))
@@ -48,7 +48,7 @@ fault-of bytes (Ok (Some found)) result new fault o r e = absurd (cc (r.0))
 fault-of bytes (Ok None) result new fault o r e = absurd (cc (r.0))
 fault-of bytes (Err wrong) result new fault o r e = record { wrong = wrong; is = o }
 
--- a look that fails has met a fault
+-- a look that fails has found a fault
 pub ready_fault : (old : Held) (bytes : List ℕ) (result : Result Bool ReadFault) (new : Held) (fault : ReadFault) → old ≡ Ok bytes → Ready old result new → result ≡ Err fault → IsFault bytes
 ready_fault old bytes result new fault h r e =
     let here : Ready (Ok bytes) result new = subst (λ o. Ready o result new) h r in
@@ -80,7 +80,7 @@ moment-more : (before : Option ℕ) (events : List Event) (event : Event) → mo
 moment-more before [] event = refl
 moment-more before (e ∷ events) event = moment-more (Some (event_moment e)) events event
 
--- words that are no spelling of nothing stand at the front as they are spelled
+-- words that aren't empty are at the front in their spelling
 pub spelled-front : (bytes : List ℕ) (found : Found) → request bytes ≡ Ok (Some found) → found.words ≢ [] → CanBeSpelled found.words × (bytes ≡ spelling found.words ++ drop found.end bytes) × (found.end ≡ length (spelling found.words))
 spelled-front bytes found e some =
     let read = request-read bytes found e in
@@ -180,7 +180,7 @@ read_all number start before seen rest held at part content moment up holds none
       part_is = size ∙ ap length (sym same);
     }
 
--- what is held stands behind the whole requests
+-- what is held follows the complete requests
 pub rest_is : (number : ℕ) (start : Content) (before : Option ℕ) (seen rest : List ℕ) (held : Held) (at : ℕ) (content : Content) (moment : Option ℕ) → IsReadUpTo number start before seen held at content moment → held ≡ Ok rest
     → drop at seen ≡ rest
 rest_is number start before seen rest held at content moment up holds =
@@ -197,7 +197,7 @@ nothing-there = nothing-is (request []) Rattle.xs_resp.proofs.Cutting.nothing-re
     nothing-is (Ok None) r = refl
     nothing-is (Err wrong) r = absurd (cc)
 
--- what was written behind the requests that were taken
+-- what was written after the requests that were taken
 pub record Behind (done written : List (List (List ℕ))) (rest more : List ℕ) : Type 0 where
   pub others : List (List (List ℕ))
   pub split : written ≡ done ++ others
@@ -226,7 +226,7 @@ one-begins (x ∷ xs) ys (z ∷ zs) ws e =
       | inr more ↦ inr (more.0, ap (λ t. z ∷ t) more.1 ∙ ap (λ b. b ∷ (xs ++ more.0)) (sym first), more.2)
     ]
 
--- no fault stands in what was written
+-- there is no fault in what was written
 pub no-fault-in : (others : List (List (List ℕ))) (rest more : List ℕ) → AllByRecursion CanBeSpelled others → rest ++ more ≡ spellings others → IsFault rest → ⊥
 no-fault-in [] rest more can e fault =
     let later : request (rest ++ more) ≡ Err fault.wrong = subst (λ o. Keeps o (request (rest ++ more))) fault.is (request-keeps rest more) in
@@ -252,7 +252,7 @@ stands-at : (number at : ℕ) (done others : List (List (List ℕ))) (words : Li
 stands-at number at [] others words events is e = inl (e, is.0)
 stands-at number at (h ∷ done) others words events is e = inr (omega (arith, e), record-at done others words events is.1)
 
--- words that may stand in a log begin with their size
+-- words that are possible in a log begin with their size
 sized-words : (number at : ℕ) (words : List (List ℕ)) → MayStand number at words → (sized : List (List ℕ)) × (words ≡ with_size sized)
 sized-words number at words (inl header) = (map escaped (with_checksum (codes "xs-log") (behind_name number)), header.1)
 sized-words number at words (inr taken) = (map escaped (with_checksum (decimal (event_moment (taken.1).0)) ((taken.1).1).plain), ((taken.1).1).stands)
@@ -318,12 +318,12 @@ known_part number (Some xs) (Some ys) bytes seen e consumes part =
 pub seen_part : (number : ℕ) (old new : Passing) (bytes seen : List ℕ) → old.known ≡ Some bytes → Consumes old new seen → IsPartOfLog number bytes → IsPartOfLog number seen
 seen_part number old new bytes seen e consumes part = known_part number old.known new.known bytes seen e consumes.0 part
 
--- a fault is a want, if the words may stand
+-- the fault is that something ran out, if the words are possible
 pub only_want : (fault : LogFault) (Stands : Type 0) → IsWant fault ⊎ (Stands → ⊥) → Stands → IsWant fault
 only_want fault Stands (inl want) stands = want
 only_want fault Stands (inr wrong) stands = absurd (wrong stands)
 
--- a look that says yes has found a request
+-- a look that returns true has found a request
 pub record IsFound (bytes : List ℕ) : Type 0 where
   pub found : Found
   pub read : request bytes ≡ Ok (Some found)
@@ -338,7 +338,7 @@ ready_found old bytes result new h r e =
     let here : Ready (Ok bytes) result new = subst (λ o. Ready o result new) h r in
     found-of bytes (request bytes) result new refl here e
 
--- what a look that says yes has found
+-- what a look that returns true has found
 pub record HasFront (held : Held) : Type 0 where
   pub bytes : List ℕ
   pub found : Found

@@ -1,4 +1,4 @@
--- Logs on a tape, and what calls do to them.
+-- Logs on a tape, and how calls change them.
 use Rattle.std.proofs.Common.{◌≡◌, ◌⊎◌, inl, inr, ℕ, suc, ◌+◌, ◌-◌, ◌^◌, ◌<◌, ◌≤◌, true, false, List, [], ◌∷◌, ◌++◌, length, take, map, Option, Some, None, Ok, Err, decimal, codes, refl, sym, ap, ◌∙◌, subst, arith, append_assoc, length-append}
 use Rattle.std.specs.Prelude.{Bool, Result, IfSome, MatchResult, ◌||◌}
 use Rattle.std.specs.List.{AllByRecursion}
@@ -20,7 +20,7 @@ use Rattle.xs_log.specs.Reading.{IsClosedLog}
 use Rattle.xs_log.specs.TapeLog.{AreClosedLogs, IsLogOnTape, MayBeLogOnTape, HasLog, MayHaveClosedLogs, AwaitsHeader, MayBeLogs}
 use Rattle.xs_log.proofs.Steps.{spellings-more, all-more, records-more}
 
--- ---- a tape that tells nothing never does
+-- ---- a tape whose content isn't known stays so
 
 untold-on : (b : Bool) (p : List ℕ) (o : Option TapeBytes) (first more : List (List ℕ)) (text other : List ℕ) (sure fewer : ℕ) → MayBeOnTape b p o first text sure → MayBeOnTape b p o more other fewer
     → (first ≡ more → ⊥) → o ≡ None
@@ -30,7 +30,7 @@ untold-on b p (Some t) first more text other sure fewer h k differ = absurd (dif
 untold : (w : Writing) (text other : List ℕ) (sure fewer : ℕ) → Has w [] text sure → Has w ([] ∷ []) other fewer → w.holds ≡ None
 untold w text other sure fewer h k = untold-on w.broken w.pending w.holds [] ([] ∷ []) text other sure fewer h k (λ e. absurd (cc (e)))
 
--- what a call makes of what a tape has
+-- how a call changes the content of a tape
 abbrev Makes : Writing → Writing → Type 0
 Makes old new = (closed : List (List ℕ)) (text : List ℕ) (sure : ℕ) → Has old closed text sure → Has new closed text sure
 
@@ -198,7 +198,7 @@ log_unkept (Err y) x number old new events kept is sound keeps log = same-on num
 
 -- ---- a header is put
 
--- what stands in a header behind its name
+-- the words of a header after its name
 abbrev behind : ℕ → List (List ℕ)
 behind number = codes "2" ∷ decimal number ∷ decimal model_number ∷ []
 
@@ -265,7 +265,7 @@ header_unkept (Err y) x number old between new events is sound broken small puts
     let header = spelling (header_words number) in
     header-on number 0 0 old new old.holds new.holds events refl refl sound small (λ closed has. keeps closed header 0 (puts.puts closed [] 0 has)) refl (omega arith) (λ fine. absurd (cc (fine, broken))) log
 
--- a call is said to have failed that changed nothing
+-- a call has failed, and changed nothing
 broken-on : (p : List ℕ) (o : Option TapeBytes) (closed : List (List ℕ)) (text more : List ℕ) (sure : ℕ) → MayBeOnTape false p o closed text sure → MayBeOnTape true p o closed (text ++ more) sure
 broken-on p None closed text more sure h = tt
 broken-on p (Some t) closed text more sure h = record {
@@ -357,7 +357,7 @@ pub log_begun : {E : Type 0} (result : Result (Unit {0}) E) (u : Unit {0}) (numb
 log_begun (Err x) u number old new events is sound fine closes log = absurd (cc (is))
 log_begun (Ok x) u number old new events is sound fine closes log = begun-on number old new old.holds new.holds events refl refl sound fine closes log
 
--- the next file, of which nothing is written yet
+-- the next file, which is still empty
 unheaded : (number : ℕ) (p : List ℕ) (t : TapeBytes) (closed : List (List ℕ)) (events : List Event) → length closed < 2 ^ 64 - 1 → AreClosedLogs 1 closed events → IsOnTape true p t closed [] 0 → IsLogOnTape true number p t events (length events)
 unheaded number p t closed events small are tape = record {
   closed = closed;
@@ -382,7 +382,7 @@ unheaded number p t closed events small are tape = record {
   };
 }
 
--- a tape that tells nothing has no closed files either
+-- a tape whose content isn't known has no closed files either
 closed-untold : (old new : Writing) → ((closed : List (List ℕ)) → Has new closed [] 0 ⊎ Has new (closed ++ [] ∷ []) [] 0) → new.holds ≡ None
 closed-untold old new has = elim (has []) [
   | inl h ↦ elim (has ([] ∷ [])) [
@@ -478,7 +478,7 @@ pub match_any : {E : Type 0} (result : Result (Unit {0}) E) (All Part : Type 0) 
 match_any (Ok u) All Part all part = all
 match_any (Err e) All Part all part = part
 
--- ---- logs that are gone on with
+-- ---- logs that are continued
 
 logs-on : (number : ℕ) (p : List ℕ) (o : Option TapeBytes) (size : ℕ) (events : List Event) → p ≡ [] → IfSome o (λ tape. size ≡ length tape.written) → (size ≡ 0 → ⊥) → MayBeLogs number o events
     → MayBeLogOnTape false number p o events (length events)

@@ -1,8 +1,8 @@
--- Why a log isn't read, though nothing is wrong with it.
+-- Why a log isn't read, though it is right.
 use Rattle.xs_log.specs.declared.fault.LogFault.{LogFault}
 use Rattle.xs_log.specs.declared.fault.LogFault.TheVariants.{Memory, Device, TooLong}
 
--- memory, the device or a number ran out
+-- memory or a number ran out, or the device failed
 abbrev pub IsWant : LogFault → Type 0
 IsWant Memory = Unit {0}
 IsWant Device = Unit {0}

@@ -7,7 +7,7 @@ use Rattle.xs_tape.specs.Records.{CanBeSpelled, spellings}
 use Rattle.xs_replay.specs.Log.{IsLog}
 use Rattle.xs_log.specs.Reading.{IsClosedLog}
 
--- a crash may leave this file of a log with these events, where so many of its header and its records were kept
+-- a crash may leave this file of a log with these events, if this many of its header and its records were kept
 pub record CrashLeavesLog (number : ℕ) (events : List Event) (kept : ℕ) (file : List ℕ) : Type 0 where
   pub requests : List (List (List ℕ))
   pub spelled : AllByRecursion CanBeSpelled requests
@@ -15,14 +15,15 @@ pub record CrashLeavesLog (number : ℕ) (events : List Event) (kept : ℕ) (fil
   pub within : kept ≤ length requests
   pub leaves : CrashLeaves (length (spellings (take kept requests))) (spellings requests) file
 
--- the readers give logs that were written whole, with the numbers from this one on; together they have these events
+-- the readers give logs that were written completely, with the numbers from this one on; together they have these
+-- events
 abbrev pub GiveClosedLogs : {R : Type 0} → (R → Option (List ℕ)) → ℕ → List R → List Event → Type 0
 GiveClosedLogs rest number [] events = events ≡ []
 GiveClosedLogs rest number (reader ∷ readers) events =
     (bytes : List ℕ) × (first more : List Event) × (rest reader ≡ Some bytes) × IsClosedLog number bytes first
     × (events ≡ first ++ more) × GiveClosedLogs rest (suc number) readers more
 
--- so do those of them that tell what they give
+-- so do those readers whose bytes are known
 abbrev pub MayGiveClosedLogs : {R : Type 0} → (R → Option (List ℕ)) → ℕ → List R → List Event → Type 0
 MayGiveClosedLogs rest number [] events = events ≡ []
 MayGiveClosedLogs rest number (reader ∷ readers) events =

@@ -1,4 +1,4 @@
--- Which piece of a content a piece of the program is.
+-- A piece of the program as a piece of a content.
 use Rattle.xs_replay.specs.Pieces as content
 use Rattle.xs_log.specs.declared.piece.Piece.{Piece}
 use Rattle.xs_log.specs.declared.piece.Piece.TheVariants.{Key, Entry, Group, Consumer, Row}

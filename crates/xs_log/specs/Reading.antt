@@ -24,12 +24,12 @@ TakesRequest number at words old before new moment =
     ⊎ ((0 < at) × ((event : Event) × IsRecordOf words event × (new ≡ after old event)
     × (moment ≡ Some (event_moment event))))
 
--- these words may stand at this byte of a log
+-- these words are possible at this byte of a log
 abbrev pub MayStand : ℕ → ℕ → List (List ℕ) → Type 0
 MayStand number at words =
     ((at ≡ 0) × (words ≡ header_words number)) ⊎ ((0 < at) × ((event : Event) × IsRecordOf words event))
 
--- of these bytes whole requests were taken, up to this byte; the rest is held
+-- complete requests were taken from these bytes, up to this byte; the rest is held
 pub record IsReadUpTo (number : ℕ) (start : Content) (before : Option ℕ) (seen : List ℕ) (held : Held) (at : ℕ)
     (content : Content) (moment : Option ℕ) : Type 0 where
   pub requests : List (List (List ℕ))
@@ -43,7 +43,7 @@ pub record IsReadUpTo (number : ℕ) (start : Content) (before : Option ℕ) (se
   pub content_is : content ≡ contents_after start events
   pub moment_is : moment ≡ moment_after before events
 
--- all bytes of a log that is closed: its header, and whole records
+-- all bytes of a log that is closed: its header, and complete records
 pub record IsClosedLog (number : ℕ) (bytes : List ℕ) (events : List Event) : Type 0 where
   pub header : List (List ℕ)
   pub records : List (List (List ℕ))

@@ -1,4 +1,4 @@
--- What is found after a crash of the logs on a tape.
+-- What is found of the logs on a tape after a crash.
 use Rattle.std.specs.Prelude.{◌≡◌, ℕ, suc, ◌≤◌, List, length, take, Option, None}
 use Rattle.xs_bytes.specs.SortedMap.{empty}
 use Rattle.xs_keys.specs.Event.{Event}
@@ -7,8 +7,8 @@ use Rattle.xs_tape.specs.Tape.{TapeBytes}
 use Rattle.xs_replay.specs.After.{contents_after, moment_after}
 use Rattle.xs_log.specs.TapeLog.{AreLogs}
 
--- this content and moment are those of the first of the events, all that were kept among them; and where the last file
--- is cut behind so many bytes, and kept, the files are logs with these events
+-- this content and this moment are those after the first of the events, including all that were kept; and if the last
+-- file is cut after its complete records, and kept, the files are logs with these events
 pub record Restarts (tape : TapeBytes) (events : List Event) (kept : ℕ) (file : List ℕ) (content : Content)
     (moment : Option ℕ) (whole : ℕ) : Type 0 where
   pub count : ℕ

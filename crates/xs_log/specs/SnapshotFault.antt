@@ -1,8 +1,8 @@
--- Why a snapshot isn't read, though nothing is wrong with it.
+-- Why a snapshot isn't read, though it is right.
 use Rattle.xs_log.specs.declared.snapshot_fault.SnapshotFault.{SnapshotFault}
 use Rattle.xs_log.specs.declared.snapshot_fault.SnapshotFault.TheVariants.{Memory, Device, TooLong}
 
--- memory, the device or a number ran out
+-- memory or a number ran out, or the device failed
 abbrev pub HasRunOut : SnapshotFault → Type 0
 HasRunOut Memory = Unit {0}
 HasRunOut Device = Unit {0}

@@ -1,4 +1,4 @@
--- Snapshots by their pieces, whatever content these say.
+-- Snapshots by their pieces, whatever their content is.
 use Rattle.std.specs.Prelude.{◌≡◌, ℕ, ◌^◌, ◌<◌, ◌≤◌, List, [], ◌∷◌, map, length, decimal, codes, Option, IfSome}
 use Rattle.std.specs.List.{AllByRecursion}
 use Rattle.xs_tape.specs.Records.{CanBeSpelled, record_words, spellings}
@@ -6,7 +6,7 @@ use Rattle.xs_replay.specs.Pieces.{Piece}
 use Rattle.xs_replay.specs.SnapshotWords.{Fits}
 use Rattle.xs_replay.specs.Snapshot.{snapshot_header, piece_record, piece_records}
 
--- the record that ends a snapshot of so many pieces
+-- the record that ends a snapshot of this many pieces
 abbrev pub end_record : ℕ → List (List ℕ)
 end_record count = record_words (codes "END") (decimal count ∷ [])
 
@@ -18,7 +18,7 @@ front_records number moment pieces = snapshot_header number moment ∷ map piece
 abbrev pub all_records : ℕ → Option ℕ → List Piece → List (List (List ℕ))
 all_records number moment pieces = snapshot_header number moment ∷ piece_records pieces
 
--- words that a record may have behind its first, whatever their bytes are: each has no more than 256 MiB
+-- words that a record may have after its first, whatever their bytes are: each has at most 256 MiB
 pub record AreShort (words : List (List ℕ)) : Type 0 where
   pub few : length words ≤ 1048573
   pub short : AllByRecursion (λ word. length word ≤ 268435456) words

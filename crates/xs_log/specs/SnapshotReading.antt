@@ -9,7 +9,7 @@ use Rattle.xs_replay.specs.SnapshotWords.{Fits}
 use Rattle.xs_replay.specs.Snapshot.{piece_record}
 use Rattle.xs_log.specs.SnapshotPieces.{end_record, front_records, MomentFits, HasPieces}
 
--- of a source that began so, these requests were taken; what was read behind them is held
+-- these requests were taken from a source that began so; what was read after them is held
 pub record HasTaken (first now : Passing) (held : Held) (requests : List (List (List ℕ))) : Type 0 where
   pub seen : List ℕ
   pub rest : List ℕ
@@ -18,22 +18,23 @@ pub record HasTaken (first now : Passing) (held : Held) (requests : List (List (
   pub seen_is : seen ≡ spellings requests ++ rest
   pub spelled : AllByRecursion CanBeSpelled requests
 
--- a source has these requests, and nothing else
+-- a source has only these requests
 pub record Gives (first : Passing) (requests : List (List (List ℕ))) : Type 0 where
   pub known_is : first.known ≡ Some (spellings requests)
   pub spelled : AllByRecursion CanBeSpelled requests
 
--- behind so many pieces a record may be the end, or one of a piece
+-- after this many pieces a record may be the end, or one of a piece
 abbrev pub MayStandBehind : ℕ → List (List ℕ) → Type 0
 MayStandBehind count words = (words ≡ end_record count) ⊎ ((piece : Piece) × Fits piece × (words ≡ piece_record piece))
 
--- a reader of a snapshot: what its source tells, the bytes that it holds, and how many pieces it has given
+-- a reader of a snapshot: what is known of its source, the bytes that it holds, and the number of pieces that it has
+-- given
 pub record SnapshotReading : Type 0 where
   pub source : Passing
   pub held : Held
   pub count : ℕ
 
--- of a source that began so, a header with this number and this moment was read, and these pieces behind it
+-- a header with this number and this moment was read from a source that began so, and these pieces after it
 pub record HasRead
     (number : ℕ) (first : Passing) (reading : SnapshotReading) (moment : Option ℕ) (pieces : List Piece)
     : Type 0 where

@@ -1,4 +1,4 @@
--- The logs that the files of a tape are.
+-- The files of a tape as logs.
 use Rattle.std.specs.Prelude.{◌≡◌, ℕ, suc, ◌+◌, ◌-◌, ◌<◌, ◌≤◌, Bool, false, List, [], ◌∷◌, ◌++◌, length, take, Option}
 use Rattle.std.specs.Prelude.{Some, None}
 use Rattle.std.specs.List.{AllByRecursion}
@@ -9,15 +9,15 @@ use Rattle.xs_tape.specs.Writing.{Writing, IsOnTape}
 use Rattle.xs_replay.specs.Log.{IsLog}
 use Rattle.xs_log.specs.Reading.{IsClosedLog}
 
--- these bytes are logs that were written whole, with the numbers from this one on; together they have these events
+-- these bytes are logs that were written completely, with the numbers from this one on; together they have these events
 abbrev pub AreClosedLogs : ℕ → List (List ℕ) → List Event → Type 0
 AreClosedLogs number [] events = events ≡ []
 AreClosedLogs number (bytes ∷ closed) events =
     (first more : List Event) × IsClosedLog number bytes first × (events ≡ first ++ more)
     × AreClosedLogs (suc number) closed more
 
--- the files of a tape are logs with these events. Of the last one, where a call has failed, a beginning may be written;
--- and of its header and its records as many are kept as the first of all events take
+-- the files of a tape are logs with these events; if a call has failed, only a beginning of the last one may be
+-- written; and enough of its header and its records is kept for the first `kept` of all events
 pub record IsLogOnTape
     (broken : Bool) (number : ℕ) (pending : List ℕ) (tape : TapeBytes) (events : List Event) (kept : ℕ) : Type 0 where
   pub closed : List (List ℕ)
@@ -40,11 +40,11 @@ abbrev pub MayBeLogOnTape : Bool → ℕ → List ℕ → Option TapeBytes → L
 MayBeLogOnTape broken number pending None events kept = Unit {0}
 MayBeLogOnTape broken number pending (Some tape) events kept = IsLogOnTape broken number pending tape events kept
 
--- so it is, where the tape tells what it holds
+-- so it is, if the content of the tape is known
 abbrev pub HasLog : Bool → ℕ → Writing → List Event → ℕ → Type 0
 HasLog broken number writing events kept = MayBeLogOnTape broken number writing.pending writing.holds events kept
 
--- the closed files of a tape are logs with these events, and the last one is empty. It is to have this number
+-- the closed files of a tape are logs with these events, and the last one is empty; it will get this number
 pub record HasClosedLogs (number : ℕ) (pending : List ℕ) (tape : TapeBytes) (events : List Event) : Type 0 where
   pub closed : List (List ℕ)
   pub closed_are : AreClosedLogs 1 closed events
@@ -58,7 +58,7 @@ MayHaveClosedLogs number pending (Some tape) events = HasClosedLogs number pendi
 abbrev pub AwaitsHeader : ℕ → Writing → List Event → Type 0
 AwaitsHeader number writing events = MayHaveClosedLogs number writing.pending writing.holds events
 
--- the files of a tape are logs with these events, all of them kept. The last one has this number, and may have no
+-- the files of a tape are logs with these events, all of them kept; the last one has this number, and may have no
 -- header
 pub record AreLogs (number : ℕ) (tape : TapeBytes) (events : List Event) : Type 0 where
   pub before : List Event

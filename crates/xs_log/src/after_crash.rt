@@ -1,4 +1,4 @@
-//! What a crash has left of the logs on a tape.
+//! The logs on a tape after a crash.
 ghost use Rattle.std.specs.Prelude.{◌≡◌, ℕ, List, Bool, None, Some, drop, map, IfOk, MatchResult};
 ghost use Rattle.xs_io.specs.Passing.{known_by};
 ghost use Rattle.xs_bytes.specs.SortedMap.{empty};
@@ -16,8 +16,8 @@ use crate::reading::{Extent, Recovered};
 use std::alloc::Global;
 use xs_io::Source;
 
-/// Reads the files of a tape, the closed ones and the last one. It gives what their events leave, and how far the last
-/// one goes: there it has to be cut before events are noted again.
+/// Reads the files of a tape, the closed ones and the last one. Returns the content after their events, and the extent
+/// of the last one: its file has to be cut there before events are noted again.
 ///
 /// # Errors
 /// A `LogsFault`.
@@ -29,11 +29,11 @@ pub fn restart<R: Source + Drop>(
     // The content is that of some events.
     ensures content { IfOk result (λ found. (events : List Event)
         × (found.0.keyspace ≡ contents_after empty events) × (found.0.last ≡ moment_after None events)) }
-    // What stands behind the whole records of the last file may be what a crash left of a record.
+    // What follows the complete records of the last file may be what a crash left of a record.
     ensures cut { (file : List ℕ) → known_by R.rest last ≡ Some file →
         IfOk result (λ found. MayBeCut (drop found.1.whole (before_zero file))) }
-    // Whatever a crash has left of the logs that a tape had is read, unless memory, a reader or a number of 64 bits
-    // runs out. It gives the first of their events, all that were kept among them.
+    // Whatever a crash has left of the logs on a tape is read, unless memory, a reader or a number of 64 bits runs out.
+    // The content is that after the first of their events, including all that were kept.
     ensures read { (broken : Bool) (number : ℕ) (pending : List ℕ) (tape : TapeBytes) (events : List Event) (kept : ℕ)
         (file : List ℕ) → IsLogOnTape broken number pending tape events kept →
         CrashLeaves tape.kept tape.written file →

@@ -11,7 +11,7 @@ use crate::reading::{Extent, Recovered, read_log};
 use std::alloc::Global;
 use xs_io::Source;
 
-/// Whether a log has its header, and no part of a record behind the whole ones.
+/// Whether a log has its header, and no part of a record after the complete ones.
 fn is_closed(extent: Extent) -> bool
     ensures yes { result ≡ true → (extent.whole ≢ 0) × (extent.part ≡ 0) }
     ensures no { result ≡ false → (extent.whole ≢ 0) × (extent.part ≡ 0) → ⊥ }
@@ -22,10 +22,11 @@ fn is_closed(extent: Extent) -> bool
     extent.part == 0
 }
 
-/// Reads a closed log, onto what the logs before it left. Its end may not be torn, and it has its header.
+/// Reads a closed log, and applies its events to the content after the logs before it. It must have its header and no
+/// torn end.
 ///
 /// # Errors
-/// A `LogFault`. What is recovered is of no use then.
+/// A `LogFault`. What is recovered must not be used then.
 pub fn read_closed_log<R: Source>(
     alloc: Global,
     number: u64,
@@ -37,7 +38,7 @@ pub fn read_closed_log<R: Source>(
         × IsClosedLog number bytes events
         × (recovered.new.keyspace ≡ contents_after recovered.old.keyspace events)
         × (recovered.new.last ≡ moment_after recovered.old.last events)) }
-    // A log that was written whole is never refused.
+    // A log that was written completely is never refused.
     ensures err { (bytes : List ℕ) (events : List Event) → known_by R.rest log.old ≡ Some bytes →
         IsClosedLog number bytes events → IfErr result IsWant }
 {

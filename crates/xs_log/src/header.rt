@@ -13,10 +13,10 @@ use xs_resp::Request;
 /// The number of the model. It is raised whenever the content after an event, of words that were accepted, changes.
 pub const MODEL_NUMBER: u64 = 1;
 
-/// What the first word of a log says.
+/// The first word of a log.
 pub(crate) const NAME: &[u8] = b"xs-log";
 
-/// What the format's word says.
+/// The word of the format.
 pub(crate) const FORMAT: &[u8] = b"2";
 
 pub(crate) fn is_text(word: &[u8], text: &[u8]) -> bool
@@ -26,7 +26,7 @@ pub(crate) fn is_text(word: &[u8], text: &[u8]) -> bool
     word == text
 }
 
-/// Whether the words behind the name are those of a log with this number.
+/// Checks that the words after the name are those of a log with this number.
 fn check_numbers(number: u64, rest: &[Bytes]) -> Result<(), LogFault>
     ensures ok { OnOk result (rest.now ≡ codes "2" ∷ decimal number ∷ decimal model_number ∷ []) }
     ensures err { OnErr result (rest.now ≢ codes "2" ∷ decimal number ∷ decimal model_number ∷ []) }
@@ -46,7 +46,7 @@ fn check_numbers(number: u64, rest: &[Bytes]) -> Result<(), LogFault>
     Ok(())
 }
 
-/// Why words are no header. Those of format 1 begin with the name.
+/// Why words aren't a header. Those of format 1 begin with the name.
 fn fault_of(sent: &Request<'_>) -> LogFault {
     match sent.split_first() {
         Some((word, _)) if is_text(word, NAME) => LogFault::OtherFormat,
@@ -54,7 +54,7 @@ fn fault_of(sent: &Request<'_>) -> LogFault {
     }
 }
 
-/// Whether these words, which take so many bytes, are the header of the log with this number.
+/// Checks that these words, which take `len` bytes, are the header of the log with this number.
 pub(crate) fn check_header(
     alloc: Global,
     number: u64,

@@ -15,11 +15,11 @@ use std::alloc::Global;
 use xs_io::Source;
 use xs_tape::BeforeZero;
 
-/// Reads the last log, up to its first zero byte, onto what the logs before it left. Its file has to be cut behind the
-/// whole records before more is appended.
+/// Reads the last log, up to its first zero byte, and applies its events to the content after the logs before it. Its
+/// file has to be cut after the complete records before more is appended.
 ///
 /// # Errors
-/// A `LogFault`. What is recovered is of no use then.
+/// A `LogFault`. What is recovered must not be used then.
 pub fn read_last_log<R: Source + Drop>(
     alloc: Global,
     number: u64,
@@ -30,13 +30,13 @@ pub fn read_last_log<R: Source + Drop>(
     ensures content { OnOk result ((events : List Event)
         × (recovered.new.keyspace ≡ contents_after recovered.old.keyspace events)
         × (recovered.new.last ≡ moment_after recovered.old.last events)) }
-    // What stands behind the whole records may be what a crash left of a record: its lengths haven't changed.
+    // What follows the complete records may be what a crash left of a record: its lengths haven't changed.
     ensures cut { (left : List ℕ) → known_by R.rest file ≡ Some left →
         IfOk result (λ extent. MayBeCut (drop extent.whole (before_zero left))) }
     // Whatever a crash has left of a log is read, unless memory, the reader or a number of 64 bits runs out.
     ensures err { (events : List Event) (kept : ℕ) (left : List ℕ) → CrashLeavesLog number events kept left →
         known_by R.rest file ≡ Some left → IfErr result IsWant }
-    // It gives the first of its events, among them all whose records, behind the header, were kept.
+    // The content is that after the first of its events, including all whose records, after the header, were kept.
     ensures ok { (events : List Event) (kept : ℕ) (left : List ℕ) → CrashLeavesLog number events kept left →
         known_by R.rest file ≡ Some left → IfOk result (λ extent. (count : ℕ) × (count ≤ length events) × (kept ≤ count + 1)
         × HasEvents number (before_zero left) (take count events) extent.whole extent.part

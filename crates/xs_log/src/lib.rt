@@ -1,4 +1,4 @@
-//! Logs: how they are read, and the keyspace that they stand for.
+//! Logs and snapshots: how they are read and written.
 #![tactic(auto)]
 
 pub mod after_crash;

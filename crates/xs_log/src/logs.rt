@@ -17,7 +17,7 @@ use std::alloc::Global;
 use thiserror::Error;
 use xs_io::Source;
 
-/// Why logs aren't read: the first of them, by its number, that isn't, and why.
+/// Why logs aren't read: the number of the first that isn't, and the cause.
 #[derive(Clone, Copy, Debug, PartialEq, Eq, Error)]
 #[error("log-{number} {fault}")]
 pub struct LogsFault {
@@ -25,8 +25,8 @@ pub struct LogsFault {
     pub fault: LogFault,
 }
 
-/// Reads closed logs, one after the other, whose numbers count up from this one, onto what the logs before them left.
-/// It gives the number of the next.
+/// Reads closed logs, one after the other, whose numbers count up from this one, and applies their events to the
+/// content after the logs before them. Returns the number of the next one.
 ///
 /// # Errors
 /// A `LogsFault`.
@@ -39,7 +39,7 @@ pub fn read_closed_logs<R: Source + Drop>(
     ensures ok { IfOk result (λ next. ((events : List Event) × MayGiveClosedLogs (known_by R.rest) first logs.items events
         × (recovered.new.keyspace ≡ contents_after recovered.old.keyspace events)
         × (recovered.new.last ≡ moment_after recovered.old.last events)) × (next ≡ first + length logs.items)) }
-    // Logs that were written whole are never refused.
+    // Logs that were written completely are never refused.
     ensures err { (events : List Event) → GiveClosedLogs (known_by R.rest) first logs.items events →
         IfErr result (λ refusal. IsWant refusal.fault) }
 {
@@ -61,8 +61,8 @@ pub fn read_closed_logs<R: Source + Drop>(
     Ok(number)
 }
 
-/// Reads all logs of a server, from this number on: those that are closed, whose numbers count up, and the last one
-/// behind them. It gives what their events leave of what was there at the start, and how far the last one goes.
+/// Reads all logs of a server, from this number on: those that are closed, whose numbers count up, and after them the
+/// last one. Returns the content after their events, and the extent of the last one.
 ///
 /// # Errors
 /// A `LogsFault`.
@@ -77,15 +77,15 @@ pub fn recover<R: Source + Drop>(
     ensures content { IfOk result (λ found. (events : List Event)
         × (found.0.keyspace ≡ contents_after start.keyspace events)
         × (found.0.last ≡ moment_after start.last events)) }
-    // What stands behind the whole records of the last log may be what a crash left of a record.
+    // What follows the complete records of the last log may be what a crash left of a record.
     ensures cut { (left : List ℕ) → known_by R.rest last ≡ Some left →
         IfOk result (λ found. MayBeCut (drop found.1.whole (before_zero left))) }
-    // Closed logs that were written whole, and whatever a crash has left of the last one, are never refused.
+    // Closed logs that were written completely, and whatever a crash has left of the last one, are never refused.
     ensures err { (before events : List Event) (kept : ℕ) (left : List ℕ) →
         GiveClosedLogs (known_by R.rest) first closed.items before →
         CrashLeavesLog (first + length closed.items) events kept left → known_by R.rest last ≡ Some left →
         IfErr result (λ refusal. IsWant refusal.fault) }
-    // All events of the closed logs were applied, and then the first of the last one, all that were kept among them.
+    // All events of the closed logs were applied, and then the first of the last one, including all that were kept.
     ensures ok { IfOk result (λ found. (before : List Event) × MayGiveClosedLogs (known_by R.rest) first closed.items before
         × ((events : List Event) (kept : ℕ) (left : List ℕ) →
         CrashLeavesLog (first + length closed.items) events kept left → known_by R.rest last ≡ Some left →

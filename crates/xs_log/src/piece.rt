@@ -2,8 +2,8 @@
 use xs_bytes::{Bytes, List, U63};
 use xs_stream::{Field, Id, Moment};
 
-/// A piece of what a snapshot says. A key comes first, then its entries and its groups; behind a group come its
-/// consumers and its pending rows.
+/// A piece of a snapshot. A key comes first, then its entries and its groups; after a group come its consumers and its
+/// pending rows.
 #[derive(Debug, Drop)]
 pub enum Piece {
     /// A key.
@@ -12,7 +12,7 @@ pub enum Piece {
         name: Bytes,
         /// Its top id.
         top: Id,
-        /// How many entries were ever added to it.
+        /// The number of entries that were ever added to it.
         added: u128,
         /// The greatest id that was ever deleted from it.
         deleted: Id,
@@ -35,7 +35,7 @@ pub enum Piece {
     Consumer {
         /// Its name.
         name: Bytes,
-        /// When it was last seen.
+        /// Its moment: when it was created, or was last given or claimed something.
         moment: Moment,
     },
     /// A pending row of the last group.
@@ -46,7 +46,7 @@ pub enum Piece {
         consumer: Bytes,
         /// When it was last delivered.
         time: Moment,
-        /// How often it was delivered.
+        /// The number of deliveries.
         count: U63,
     },
 }

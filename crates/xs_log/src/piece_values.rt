@@ -1,4 +1,4 @@
-//! The words that say a piece, behind the one of its kind.
+//! The words that spell a piece, after the one of its kind.
 ghost use Rattle.std.specs.Prelude.{◌≡◌, ◌∷◌, ◌++◌, [], ◌/◌, ◌%◌, ◌^◌, decimal, IfOk, OnOk};
 ghost use Rattle.xs_replay.specs.Pieces as content;
 ghost use Rattle.xs_replay.specs.SnapshotWords.{id_words, wide_words, field_words, values_of};
@@ -7,14 +7,14 @@ use std::alloc::{AllocError, Global};
 use xs_bytes::{Bytes, U63, decimal_text};
 use xs_stream::{Id, Moment, PackedFields};
 
-/// How often a number of 128 bits has 2^64.
+/// The quotient of a number of 128 bits by 2^64.
 fn high_part(number: u128) -> u64
     ensures { result ≡ number / 2 ^ 64 }
 {
     (number >> 64) as u64
 }
 
-/// The rest of it.
+/// The remainder of the number.
 fn low_part(number: u128) -> u64
     ensures { result ≡ number % 2 ^ 64 }
 {
@@ -56,7 +56,7 @@ pub(crate) fn key_values(
     Ok([name, top_ms, top_seq, high, low, deleted_ms, deleted_seq])
 }
 
-/// Makes these the words of an entry.
+/// Replaces `words` by the words of an entry.
 pub(crate) fn entry_values(
     alloc: Global,
     words: &mut Vec<Bytes>,

@@ -1,4 +1,4 @@
-//! The piece that words say.
+//! The piece that words spell.
 ghost use Rattle.std.specs.Prelude.{◌≡◌, ◌∷◌, IfOk, bytes_eq};
 ghost use Rattle.std.specs.Option.{option_map};
 ghost use Rattle.xs_replay.specs.PieceReading.{id_of_words, wide_of_words, small_of_word, fields_of_words};
@@ -26,7 +26,7 @@ pub(crate) const CONSUMER: &[u8] = b"CONSUMER";
 /// The first word of a pending row.
 pub(crate) const ROW: &[u8] = b"ROW";
 
-/// The id that two words say.
+/// The id that two words spell.
 fn id_of(ms: &Bytes, seq: &Bytes) -> Option<Id>
     ensures { result ≡ id_of_words ms.now seq.now }
 {
@@ -35,7 +35,7 @@ fn id_of(ms: &Bytes, seq: &Bytes) -> Option<Id>
     Some(Id { ms, seq })
 }
 
-/// The number of 128 bits that two words say.
+/// The number of 128 bits that two words spell.
 fn wide_of(high: &Bytes, low: &Bytes) -> Option<u128>
     ensures { result ≡ wide_of_words high.now low.now }
 {
@@ -44,7 +44,7 @@ fn wide_of(high: &Bytes, low: &Bytes) -> Option<u128>
     Some(((high as u128) << 64) + low as u128)
 }
 
-/// The moment that a word says.
+/// The moment that a word spells.
 fn moment_of(word: &Bytes) -> Option<Moment>
     ensures { result ≡ small_of_word word.now }
 {
@@ -52,7 +52,7 @@ fn moment_of(word: &Bytes) -> Option<Moment>
     Moment::new(number)
 }
 
-/// The count of deliveries that a word says.
+/// The count of deliveries that a word spells.
 fn count_of(word: &Bytes) -> Option<U63>
     ensures { result ≡ small_of_word word.now }
 {
@@ -70,7 +70,7 @@ fn copy_of(alloc: Global, word: &Bytes) -> Result<Bytes, AllocError>
     Bytes::from_slice(alloc, word.as_slice())
 }
 
-/// The fields that words say, names and values in turn.
+/// The fields that words spell, names and values in turn.
 fn fields_of(alloc: Global, words: &[Bytes]) -> Result<Option<List<Field>>, AllocError>
     ensures { IfOk result (λ fields. fields ≡ fields_of_words words.now) }
 {
@@ -89,7 +89,7 @@ fn fields_of(alloc: Global, words: &[Bytes]) -> Result<Option<List<Field>>, Allo
     Ok(Some(List::new(fields)))
 }
 
-/// The key that words say.
+/// The key that words spell.
 fn key_of(alloc: Global, values: &[Bytes]) -> Result<Option<Piece>, AllocError>
     ensures { IfOk result (λ found. option_map piece_of found ≡ key_of_words values.now) }
 {
@@ -114,7 +114,7 @@ fn key_of(alloc: Global, values: &[Bytes]) -> Result<Option<Piece>, AllocError>
     }))
 }
 
-/// The entry that words say.
+/// The entry that words spell.
 fn entry_of(alloc: Global, values: &[Bytes]) -> Result<Option<Piece>, AllocError>
     ensures { IfOk result (λ found. option_map piece_of found ≡ entry_of_words values.now) }
 {
@@ -131,7 +131,7 @@ fn entry_of(alloc: Global, values: &[Bytes]) -> Result<Option<Piece>, AllocError
     }
 }
 
-/// The group that words say.
+/// The group that words spell.
 fn group_of(alloc: Global, values: &[Bytes]) -> Result<Option<Piece>, AllocError>
     ensures { IfOk result (λ found. option_map piece_of found ≡ group_of_words values.now) }
 {
@@ -145,7 +145,7 @@ fn group_of(alloc: Global, values: &[Bytes]) -> Result<Option<Piece>, AllocError
     Ok(Some(Piece::Group { name, cursor }))
 }
 
-/// The consumer that words say.
+/// The consumer that words spell.
 fn consumer_of(alloc: Global, values: &[Bytes]) -> Result<Option<Piece>, AllocError>
     ensures { IfOk result (λ found. option_map piece_of found ≡ consumer_of_words values.now) }
 {
@@ -159,7 +159,7 @@ fn consumer_of(alloc: Global, values: &[Bytes]) -> Result<Option<Piece>, AllocEr
     Ok(Some(Piece::Consumer { name, moment }))
 }
 
-/// The pending row that words say.
+/// The pending row that words spell.
 fn row_of(alloc: Global, values: &[Bytes]) -> Result<Option<Piece>, AllocError>
     ensures { IfOk result (λ found. option_map piece_of found ≡ row_of_words values.now) }
 {
@@ -191,7 +191,7 @@ fn is_kind(word: &[u8], kind: &[u8]) -> bool
     word == kind
 }
 
-/// The piece that a first word and the words behind the checksum say, or None if they say none.
+/// The piece that a first word and the words after the checksum spell. None if they spell none.
 pub(crate) fn piece_from(
     alloc: Global,
     kind: &[u8],

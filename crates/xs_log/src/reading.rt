@@ -1,4 +1,4 @@
-//! A log that is read, and its events applied.
+//! Reads a log, and applies its events.
 ghost use Rattle.std.specs.Prelude.{◌≡◌, ◌≢◌, ◌⊎◌, [], ℕ, List, Option, None, Some, Ok, Err, false, length, drop};
 ghost use Rattle.std.specs.Prelude.{IfOk, IfErr, OnOk};
 ghost use Rattle.xs_io.specs.Passing.{known_by, Consumes, IsAtEnd};
@@ -23,20 +23,20 @@ use xs_resp::{Fault, Reply, Request, Requests};
 use xs_stream::Moment;
 use xs_tape::may_be_cut;
 
-/// What the events of logs leave.
+/// The content after the events of logs.
 #[derive(Drop)]
 pub struct Recovered {
     /// The content.
     pub keyspace: Keyspace,
     /// The moment of the last event, if there is one.
     pub last: Option<Moment>,
-    /// How many events there are, but for those that a snapshot stands for. It is told to users, and no contract speaks
-    /// of it.
+    /// The number of events, without those that are in a snapshot. It is reported to users, and no contract refers to
+    /// it.
     pub records: u64,
 }
 
 impl Recovered {
-    /// Of no events.
+    /// The content before any event.
     pub fn new(alloc: Global) -> Self
         ensures keyspace { result.keyspace ≡ empty }
         ensures last { result.last ≡ None }
@@ -48,7 +48,7 @@ impl Recovered {
         }
     }
 
-    /// What a snapshot has.
+    /// The content of a snapshot.
     pub fn of_snapshot(keyspace: Keyspace, last: Option<Moment>) -> Self
         ensures keyspace { result.keyspace ≡ keyspace }
         ensures last { result.last ≡ last }
@@ -61,16 +61,16 @@ impl Recovered {
     }
 }
 
-/// How far a log goes.
+/// The extent of a log.
 #[derive(Clone, Copy, Debug, PartialEq, Eq)]
 pub struct Extent {
-    /// How many bytes the header and the records take. None: the log has no header yet.
+    /// The number of bytes of the header and the records. If it is 0, the log has no header yet.
     pub whole: u64,
-    /// How many bytes of an unfinished one stand behind them.
+    /// The number of bytes of an unfinished record after them.
     pub part: u64,
 }
 
-/// Applies the event of a record that takes so many bytes.
+/// Applies the event of a record of `len` bytes.
 fn apply_record(
     alloc: Global,
     recovered: &mut Recovered,
@@ -96,7 +96,7 @@ fn apply_record(
     }
 }
 
-/// Takes the request at a byte, which takes so many: the header, or a record, whose event is applied.
+/// Takes the request at a byte, which has `len` bytes: the header, or a record, whose event is applied.
 fn take_request(
     alloc: Global,
     number: u64,
@@ -120,7 +120,7 @@ fn take_request(
     }
 }
 
-/// Takes the next request, if it is whole, and says whether it was.
+/// Takes the next request if it is complete, and returns whether it was.
 fn take_next(
     alloc: Global,
     number: u64,
@@ -156,8 +156,8 @@ fn take_next(
     Ok(true)
 }
 
-/// How far a log goes that was read to its end, whole requests up to this byte. What is held behind them has to be what
-/// a crash may leave of a record.
+/// The extent of a log that was read to its end, with complete requests up to this byte. What is held after them has to
+/// be what a crash may leave of a record.
 fn extent_at_end(requests: &Requests, at: u64) -> Result<Extent, LogFault>
     ensures whole { IfOk result (λ extent. extent.whole ≡ at) }
     ensures part { (rest : List ℕ) → requests.now ≡ Ok rest →
@@ -174,23 +174,24 @@ fn extent_at_end(requests: &Requests, at: u64) -> Result<Extent, LogFault>
     })
 }
 
-/// Reads the log with this number to its end, and applies its events in their order, onto what the logs before it left.
+/// Reads the log with this number to its end, and applies its events in their order to the content after the logs
+/// before it.
 ///
 /// # Errors
-/// A `LogFault`. What is recovered is of no use then.
+/// A `LogFault`. What is recovered must not be used then.
 pub fn read_log<R: Source>(
     alloc: Global,
     number: u64,
     recovered: &mut Recovered,
     log: &mut R,
 ) -> Result<Extent, LogFault>
-    // Which bytes were read, and what their events left.
+    // Which bytes were read, and the content after their events.
     ensures ok { IfOk result (λ extent. (bytes : List ℕ) × (events : List Event)
         × Consumes (R.rest log.old) (R.rest log.new) bytes × IsAtEnd (R.rest log.new)
         × HasEvents number bytes events extent.whole extent.part
         × (recovered.new.keyspace ≡ contents_after recovered.old.keyspace events)
         × (recovered.new.last ≡ moment_after recovered.old.last events)) }
-    // What stands behind the whole records may be what a crash left of a record: its lengths haven't changed.
+    // What follows the complete records may be what a crash left of a record: its lengths haven't changed.
     ensures cut { (bytes : List ℕ) → known_by R.rest log.old ≡ Some bytes →
         IfOk result (λ extent. MayBeCut (drop extent.whole bytes)) }
     // A beginning of a log that was written is never refused.

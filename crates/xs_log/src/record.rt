@@ -19,7 +19,7 @@ use xs_tape::{checksum_of, sized_words, unescaped};
 pub enum RecordFault {
     /// Out of memory.
     Memory,
-    /// It isn't what was written.
+    /// It isn't as it was written.
     Damaged,
 }
 
@@ -48,7 +48,7 @@ fn plain_words(alloc: Global, sent: Request<'_>) -> Result<Vec<Bytes>, RecordFau
     Ok(words)
 }
 
-/// The words behind the size of a record that takes so many bytes, as they were before they were escaped.
+/// The words after the size of a record of `len` bytes, as they were before they were escaped.
 pub(crate) fn record_of(
     alloc: Global,
     sent: &Request<'_>,
@@ -80,7 +80,7 @@ pub(crate) fn is_number(word: &[u8], number: u64) -> bool
     false
 }
 
-/// The first word, and those behind the checksum; None where there is no checksum, or it isn't theirs.
+/// The first word, and those after the checksum. None if there is no checksum, or it is wrong.
 pub(crate) fn checked_words(words: &[Bytes]) -> Option<(&Bytes, &[Bytes])>
     ensures { MatchOption result
         ((first : List ℕ) (rest : List (List ℕ)) → words.now ≢ with_checksum first rest)
@@ -97,7 +97,7 @@ pub(crate) fn checked_words(words: &[Bytes]) -> Option<(&Bytes, &[Bytes])>
     }
 }
 
-/// The moment that a word is.
+/// The moment that a word spells.
 pub(crate) fn moment_of(word: &Bytes) -> Option<Moment>
     ensures { MatchOption result ((now : ℕ) → now < 2 ^ 63 → word.now ≢ decimal now)
         (λ now. (word.now ≡ decimal now) × (now < 2 ^ 63)) }
@@ -111,7 +111,7 @@ pub(crate) fn moment_of(word: &Bytes) -> Option<Moment>
     Some(now)
 }
 
-/// The event of a record that takes so many bytes.
+/// The event of a record of `len` bytes.
 pub(crate) fn read_record(
     alloc: Global,
     sent: &Request<'_>,

@@ -10,7 +10,7 @@ pub enum SnapshotFault {
     /// The reader failed.
     #[error("can't be read")]
     Device,
-    /// It has more pieces than a number of 64 bits counts.
+    /// It has more pieces than a number of 64 bits can count.
     #[error("has too many pieces")]
     TooLong,
     /// It doesn't begin as a snapshot of this format.
@@ -19,16 +19,16 @@ pub enum SnapshotFault {
     /// It is of another format.
     #[error("is of another format, and this program has format 1")]
     OtherFormat,
-    /// It has another number than its name says.
+    /// It has another number than its name.
     #[error("is the snapshot of another number")]
     OtherNumber,
     /// It is of another model, with this number.
     #[error("is of model {0}, and this program has model 1")]
     OtherModel(u64),
-    /// At this byte something stands that isn't what was written, or nothing stands before its end.
+    /// At this byte there is something other than what was written, or nothing before the end of the snapshot.
     #[error("is damaged at byte {0}")]
     Damaged(u64),
-    /// What stands behind so many pieces, another one or the end, stands there in no snapshot of a keyspace.
+    /// What follows this many pieces, another one or the end, can't be there in a snapshot of a keyspace.
     #[error("is inconsistent behind {0} pieces")]
     Inconsistent(u64),
 }

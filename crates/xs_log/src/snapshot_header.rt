@@ -15,13 +15,13 @@ use xs_bytes::{Bytes, natural};
 use xs_resp::Request;
 use xs_stream::Moment;
 
-/// What the first word of a snapshot says.
+/// The first word of a snapshot.
 pub(crate) const NAME: &[u8] = b"xs-snapshot";
 
-/// What the format's word says.
+/// The word of the format.
 pub(crate) const FORMAT: &[u8] = b"1";
 
-/// The moment that the last words of a header say, if there is one.
+/// The moment that the last words of a header spell, if there is one.
 fn last_moment(words: &[Bytes]) -> Result<Option<Moment>, SnapshotFault>
     ensures ok { IfOk result (λ moment. (words.now ≡ moment_words moment) × MomentFits moment) }
     ensures err { OnErr result ((moment : Option ℕ) → MomentFits moment → words.now ≢ moment_words moment) }
@@ -36,7 +36,7 @@ fn last_moment(words: &[Bytes]) -> Result<Option<Moment>, SnapshotFault>
     }
 }
 
-/// The moment of a header, if the words behind its name are those of a snapshot with this number.
+/// The moment of a header, if the words after its name are those of a snapshot with this number.
 fn moment_behind(number: u64, rest: &[Bytes]) -> Result<Option<Moment>, SnapshotFault>
     ensures ok { IfOk result (λ moment. (rest.now ≡ header_values number moment) × MomentFits moment) }
     ensures err { OnErr result ((moment : Option ℕ) → MomentFits moment → rest.now ≢ header_values number moment) }
@@ -56,7 +56,7 @@ fn moment_behind(number: u64, rest: &[Bytes]) -> Result<Option<Moment>, Snapshot
     last_moment(words)
 }
 
-/// The moment of the header of a snapshot with this number, whose words take so many bytes.
+/// The moment in the header of a snapshot with this number, whose words take `len` bytes.
 pub(crate) fn read_header(
     alloc: Global,
     number: u64,

@@ -22,7 +22,8 @@ use xs_io::{Fill, FillFault, Source};
 use xs_resp::Requests;
 use xs_stream::Moment;
 
-/// Reads until a whole request stands at the front, and says whether one does. None does if the source has ended.
+/// Reads until a complete request is at the front, and returns whether there is one. There is none if the source has
+/// ended.
 pub(crate) fn await_request<R: Source>(
     requests: &mut Requests,
     source: &mut R,
@@ -54,7 +55,7 @@ pub(crate) fn await_request<R: Source>(
     Err(SnapshotFault::TooLong)
 }
 
-/// Takes the header of a snapshot with this number, and gives its moment, and how many bytes it takes.
+/// Takes the header of a snapshot with this number. Returns its moment, and the number of its bytes.
 pub(crate) fn take_header<R: Source>(
     alloc: Global,
     number: u64,
@@ -83,7 +84,7 @@ pub(crate) fn take_header<R: Source>(
     Ok((moment, len as u64))
 }
 
-/// Takes the record at a byte, behind so many pieces, and gives its piece, or None at the end.
+/// Takes the record at a byte, after `count` pieces. Returns its piece, or None at the end.
 pub(crate) fn take_piece<R: Source>(
     alloc: Global,
     count: u64,
@@ -118,7 +119,7 @@ pub(crate) fn take_piece<R: Source>(
     Ok(found)
 }
 
-/// Reads to the end of the source, behind which nothing may stand.
+/// Reads to the end of the source. Nothing may follow the last record.
 pub(crate) fn take_end<R: Source>(
     at: u64,
     requests: &mut Requests,

@@ -18,13 +18,13 @@ use xs_bytes::{Bytes, decimal_text};
 use xs_stream::Moment;
 use xs_tape::{LogWriter, Tape, can_be_record};
 
-/// After so many bytes more a tape keeps what was written, so that the last sync is short.
+/// After this many bytes more the tape keeps what was written, so the last sync is short.
 pub(crate) const KEPT_EACH: u64 = 4_194_304;
 
-/// A word with so many bytes may stand in a record, since escaped it has at most twice as many.
+/// The most bytes of a word that a record can always have, since escaping at most doubles it.
 const SHORT_WORD: usize = 268_435_456;
 
-/// So many words may stand behind the first of a record.
+/// The most words after the first of a record.
 const FEW_WORDS: usize = 1_048_573;
 
 /// Why a snapshot isn't written.
@@ -37,7 +37,7 @@ pub enum WriteFault {
     #[error("can't be written")]
     Device,
     /// A piece has more words, or longer ones, than a record may have, or there are more pieces than a number of 64
-    /// bits counts.
+    /// bits can count.
     #[error("has a piece that is too long")]
     TooLong,
 }
@@ -56,7 +56,7 @@ fn are_short(words: &[Bytes]) -> bool
     words.len() <= FEW_WORDS
 }
 
-/// Whether a record may have these words behind its first, if that is short.
+/// Whether a record may have these words after its first, if the first is short.
 fn may_be_record(rest: &[Bytes]) -> bool
     ensures yes { result ≡ true → (first : List ℕ) → length first ≤ 64 → CanBeSpelled (record_words first rest.now) }
     ensures no { result ≡ false → AreShort rest.now → ⊥ }
@@ -67,7 +67,7 @@ fn may_be_record(rest: &[Bytes]) -> bool
     can_be_record(rest)
 }
 
-/// Puts a record behind the others.
+/// Appends a record.
 fn put_record<T: Tape + Drop>(
     writer: &mut LogWriter<T>,
     first: &[u8],
@@ -90,7 +90,7 @@ fn put_record<T: Tape + Drop>(
     }
 }
 
-/// Has the tape keep what was put, if it has so many bytes.
+/// Has the tape keep what was put, if it has at least `keep_at` bytes.
 fn keep_some<T: Tape + Drop>(writer: &mut LogWriter<T>, keep_at: &mut u64) -> Result<(), WriteFault>
     requires sound { writer.old.broken ≡ false }
     ensures has { (closed : List (List ℕ)) (text : List ℕ) → Has writer.old closed text 0 →
@@ -110,7 +110,7 @@ fn keep_some<T: Tape + Drop>(writer: &mut LogWriter<T>, keep_at: &mut u64) -> Re
     }
 }
 
-/// What stands in a header behind the name and the checksum.
+/// The words of a header after the name and the checksum.
 fn header_words(
     alloc: Global,
     number: u64,
@@ -184,7 +184,7 @@ pub(crate) fn put_piece<T: Tape + Drop>(
     Ok(())
 }
 
-/// Puts the end behind so many pieces, and has the tape keep all.
+/// Puts the end after `count` pieces, and has the tape keep all.
 pub(crate) fn put_end<T: Tape + Drop>(
     alloc: Global,
     writer: &mut LogWriter<T>,

@@ -16,15 +16,15 @@ use xs_io::Source;
 use xs_resp::Requests;
 use xs_stream::Moment;
 
-/// A reader of a snapshot. It holds one piece at a time, and the source.
+/// A reader of a snapshot. It owns the source, and holds one piece at a time.
 #[derive(Drop)]
 pub struct SnapshotReader<R: Source + Drop> {
     alloc: Global,
     source: R,
     requests: Requests,
-    // How many bytes of whole records were read.
+    // The number of bytes of complete records that were read.
     at: u64,
-    // How many pieces were given.
+    // The number of pieces that were returned.
     count: u64,
 }
 
@@ -37,8 +37,8 @@ impl<R: Source + Drop> Model for SnapshotReader<R> {
 }
 
 impl<R: Source + Drop> SnapshotReader<R> {
-    /// A reader of the snapshot with this number, behind its header; and the moment of the last event before the
-    /// snapshot, if there was one.
+    /// Reads the header of the snapshot with this number. Returns a reader of the pieces after it, and the moment of
+    /// the last event before the snapshot, if there was one.
     ///
     /// # Errors
     /// A `SnapshotFault`.
@@ -68,13 +68,13 @@ impl<R: Source + Drop> SnapshotReader<R> {
         Ok((reader, moment))
     }
 
-    /// The next piece, or None at the end, which counts the pieces, and behind which nothing stands. After that, or an
-    /// error, nothing more may be asked.
+    /// The next piece. None at the end, whose count has to be right and after which nothing may follow. After that, or
+    /// after an error, the reader must not be used any more.
     ///
     /// # Errors
-    /// A `SnapshotFault`. The pieces so far are of no use then.
+    /// A `SnapshotFault`. The pieces so far must not be used then.
     pub fn next_piece(&mut self) -> Result<Option<Piece>, SnapshotFault>
-        // What was read is the header and the pieces that were given; and at the end it is a whole snapshot of them.
+        // What was read is the header and the pieces that were returned; at the end it is a complete snapshot of them.
         ensures ok { (number : ℕ) (first : Passing) (moment : Option ℕ) (pieces : List content.Piece) →
             HasRead number first self.old moment pieces →
             IfOk result (λ found. MatchOption found (HasReadAll number first self.new moment pieces)

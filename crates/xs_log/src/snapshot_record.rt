@@ -1,4 +1,4 @@
-//! The records of a snapshot behind its header.
+//! The records of a snapshot after its header.
 ghost use Rattle.std.specs.Prelude.{◌≡◌, ◌≢◌, ◌∷◌, [], true, false, Err, decimal, length, IfOk, MatchOption};
 ghost use Rattle.xs_resp.specs.Grammar.{spelling};
 ghost use Rattle.xs_replay.specs.SnapshotWords.{Fits};
@@ -15,10 +15,10 @@ use std::alloc::Global;
 use xs_bytes::Bytes;
 use xs_resp::Request;
 
-/// What the first word of the end says.
+/// The first word of the end.
 pub(crate) const END: &[u8] = b"END";
 
-/// Whether the words of an end say this count.
+/// Whether the words of an end have this count.
 fn says_count(values: &[Bytes], count: u64) -> bool
     ensures yes { result ≡ true → values.now ≡ decimal count ∷ [] }
     ensures no { result ≡ false → values.now ≢ decimal count ∷ [] }
@@ -29,7 +29,7 @@ fn says_count(values: &[Bytes], count: u64) -> bool
     }
 }
 
-/// The piece of a record that takes so many bytes, or None at the end behind so many pieces.
+/// The piece of a record of `len` bytes, or None at the end after `count` pieces.
 pub(crate) fn read_piece(
     alloc: Global,
     count: u64,

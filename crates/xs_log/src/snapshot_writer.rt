@@ -15,16 +15,16 @@ use xs_bytes::{Bytes, U63};
 use xs_stream::{Id, Moment, PackedFields};
 use xs_tape::{LogWriter, Tape};
 
-/// A writer of a snapshot. What a piece is made of is lent to it. After an error nothing more may be asked of it.
+/// A writer of a snapshot. The parts of a piece are lent to it. After an error it must not be used any more.
 #[derive(Drop)]
 pub struct SnapshotWriter<T: Tape + Drop> {
     alloc: Global,
     writer: LogWriter<T>,
     // The words of the last entry, whose memory is used again.
     words: Vec<Bytes>,
-    // How many pieces were put.
+    // The number of pieces that were put.
     count: u64,
-    // Once the tape has so many bytes, it is to keep them.
+    // Once the tape has this many bytes, it has to keep them.
     keep_at: u64,
 }
 
@@ -37,8 +37,8 @@ impl<T: Tape + Drop> Model for SnapshotWriter<T> {
 }
 
 impl<T: Tape + Drop> SnapshotWriter<T> {
-    /// Begins a snapshot in the last file of a tape, which is empty: its number is that of the log behind it, and its
-    /// moment that of the last event before it, if there was one.
+    /// Begins a snapshot in the last file of a tape, which has to be empty. Its number is that of the log after it, and
+    /// its moment that of the last event before it, if there was one.
     ///
     /// # Errors
     /// A `WriteFault`.
@@ -71,7 +71,7 @@ impl<T: Tape + Drop> SnapshotWriter<T> {
         })
     }
 
-    /// Puts a key: its name, its top id, how many entries were ever added, and the greatest id ever deleted.
+    /// Puts a key: its name, its top id, the number of entries ever added, and the greatest id ever deleted.
     ///
     /// # Errors
     /// A `WriteFault`.
@@ -160,7 +160,7 @@ impl<T: Tape + Drop> SnapshotWriter<T> {
         )
     }
 
-    /// Puts a consumer of the last group: its name, and when it was last seen.
+    /// Puts a consumer of the last group: its name and its moment.
     ///
     /// # Errors
     /// A `WriteFault`.
@@ -223,10 +223,10 @@ impl<T: Tape + Drop> SnapshotWriter<T> {
         )
     }
 
-    /// Puts the end, which counts the pieces, and has the tape keep all.
+    /// Puts the end, with the number of pieces, and has the tape keep all.
     ///
     /// # Errors
-    /// A `WriteFault`. Nothing is said of what is kept then.
+    /// A `WriteFault`. It isn't known then what is kept.
     pub fn end(&mut self) -> Result<(), WriteFault>
         requires { self.old.writing.broken ≡ false }
         // The last file of the tape is a snapshot of the pieces that were put, and all of it is kept.
@@ -247,7 +247,7 @@ impl<T: Tape + Drop> SnapshotWriter<T> {
         self.writer.tape()
     }
 
-    /// The tape, without what is pending. After `end` nothing is.
+    /// Returns the tape, without what is pending. After `end` nothing is pending.
     pub fn into_tape(self) -> T
         ensures holds { T.holds result ≡ self.writing.holds }
         ensures broken { T.broken result ≡ self.writing.broken }

@@ -19,13 +19,13 @@ pub struct TapeLog<T: Tape + Drop> {
     writer: LogWriter<T>,
     // The number of the last log.
     number: u64,
-    // A log with so many bytes is closed, and the next one begun.
+    // A log with at least this many bytes is closed, and the next one begun.
     full: u64,
-    // There was no memory for a header.
+    // Whether memory ran out for a header.
     failed: bool,
 }
 
-/// A number as it is spelled.
+/// A number as a word, in decimal.
 fn number_word(alloc: Global, number: u64) -> Result<Bytes, AllocError>
     ensures { IfOk result (λ word. word ≡ decimal number) }
 {
@@ -33,7 +33,7 @@ fn number_word(alloc: Global, number: u64) -> Result<Bytes, AllocError>
     Bytes::from_slice(alloc, buffer.format(number).as_bytes())
 }
 
-/// What stands in a header behind the name and the checksum.
+/// The words of a header after the name and the checksum.
 fn header_rest(alloc: Global, number: u64) -> Result<[Bytes; 3], AllocError>
     ensures { IfOk result (λ words. words
         ≡ codes "2" ∷ decimal number ∷ decimal model_number ∷ []) }
@@ -92,8 +92,8 @@ impl<T: Tape + Drop> TapeLog<T> {
         self.put_header()
     }
 
-    /// The logs on a tape, of which the last one has this number. If that has no header yet, it is put and kept. A log
-    /// that has so many bytes is closed, and the next one begun.
+    /// The logs on a tape, the last of which has this number. If it has no header yet, one is put and kept. A log that
+    /// has at least `full` bytes is closed, and the next one begun.
     pub fn new(alloc: Global, tape: T, number: u64, full: u64) -> Result<Self, LogFailed>
         requires { T.broken tape ≡ false }
         ensures sound { IfOk result (λ log. ⟦<TapeLog<T> as EventLog>⟧.broken log ≡ false) }

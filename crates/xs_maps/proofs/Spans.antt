@@ -1,4 +1,4 @@
--- The part of entries that lies in a range.
+-- The entries within a range.
 use Rattle.std.proofs.Common.{◌≡◌, ℕ, zero, suc, ◌<◌, List, [], ◌∷◌, length, get_or, take, drop, true, false, refl, sym}
 use Rattle.std.proofs.Common.{ap, ◌∙◌, arith, Ordering}
 use mathlib.Core.Bool.{true≢false}

@@ -1,4 +1,4 @@
--- The entries that an iterator has left, wherever they lie.
+-- The entries that an iterator has left, from a vector or a tree.
 use Rattle.std.specs.Prelude.{List}
 use Rattle.xs_maps.specs.declared.entries.Left.{Left}
 use Rattle.xs_maps.specs.declared.entries.Left.TheVariants.{Few, Many}

@@ -1,4 +1,4 @@
--- What a map ends as, where a `&mut` to a value is returned.
+-- The final value of a map of which a `&mut` to a value is returned.
 use Rattle.std.specs.Prelude.{◌≡◌, Bool, Option}
 use Rattle.std.specs.Borrow.{LendsSo, Fml, RattleType, MutBor}
 use Rattle.std.specs.BTreeMap.{WritesThrough}
@@ -11,7 +11,7 @@ use Rattle.xs_maps.specs.contracts.few.Few as few
 use Rattle.xs_maps.specs.contracts.form.Form as form
 use Rattle.xs_maps.specs.contracts.small_map.SmallMap as map
 
--- what a clause has as K.Ord
+-- the type of K.Ord in a clause
 abbrev pub OrdMembers : Type 0 → Type 0
 OrdMembers K = record { partial_cmp : K → K → Option Ordering; eq : K → K → Bool; cmp : K → K → Ordering }
 
@@ -28,11 +28,11 @@ module _ (K V : RattleType) (o : OrdMembers K.Denot) where
       LendsSo (few.the_row K V) V f r (λ n w. WritesThrough o.cmp (o.cmp key) (seen_few f.now) w (seen_few n))
       (λ n. n ≡ f.now)
 
-  -- the same of what the entries are seen as
+  -- the same for the entries of a form
   abbrev pub lends_in_form : MutBor (Form K.Denot V.Denot) → K.Denot → Option (MutBor V.Denot) → Fml
   lends_in_form f key r =
       LendsSo form_row V f r (λ n w. WritesThrough o.cmp (o.cmp key) (seen f.now) w (seen n)) (λ n. seen n ≡ seen f.now)
 
-  -- the same of a map
+  -- the same for a map
   abbrev pub lends_value : MutBor (SmallMap K.Denot V.Denot) → K.Denot → Option (MutBor V.Denot) → Fml
   lends_value m key r = LendsSo map_row V m r (λ n w. WritesThrough o.cmp (o.cmp key) m.now w n) (λ n. n ≡ m.now)

@@ -1,4 +1,4 @@
--- How a map is seen, wherever its entries lie.
+-- How contracts see a map, in a vector or a tree.
 use Rattle.std.proofs.Common.{inl}
 use Rattle.std_collections.specs.Layout.BTreeMap.{BTreeMap, btree_map}
 use Rattle.xs_maps.specs.declared.few.Few as few

@@ -8,7 +8,7 @@ ghost use Rattle.xs_maps.specs.Left.{items_left};
 use std::collections::btree_map::Range;
 use std::marker::Model;
 
-/// Where the entries that are left lie.
+/// The entries that are left, in a vector or a tree.
 #[derive(Drop)]
 pub(crate) enum Left<'a, K, V> {
     Few(&'a [(K, V)]),

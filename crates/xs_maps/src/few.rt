@@ -22,7 +22,7 @@ pub(crate) struct Few<K, V> {
     pub(crate) entries: Vec<(K, V)>,
 }
 
-/// The place of a key among entries, or the place where it would go.
+/// The place of a key among entries; or, as the error, the place at which it would be inserted.
 fn place<K: Ord, V>(entries: &[(K, V)], key: &K) -> Result<usize, usize>
     ensures { result ≡ seek (K.cmp key.now) entries.now }
 {
@@ -36,7 +36,7 @@ fn place<K: Ord, V>(entries: &[(K, V)], key: &K) -> Result<usize, usize>
     Err(entries.len())
 }
 
-/// Doubles the room of a full vector, from that of one entry.
+/// Doubles the room of a full vector; an empty one gets room for one entry.
 fn double<T>(full: &mut Vec<T>) -> Result<(), AllocError>
     ensures { full.new.items ≡ full.old.items }
 {
@@ -46,7 +46,7 @@ fn double<T>(full: &mut Vec<T>) -> Result<(), AllocError>
     full.reserve_exact(full.len().max(1))
 }
 
-/// Puts a value at a key.
+/// Inserts a value at a key.
 pub(crate) fn insert_few<K: Ord + Drop, V: Drop>(
     few: &mut Vec<(K, V)>,
     key: K,
@@ -65,7 +65,7 @@ pub(crate) fn insert_few<K: Ord + Drop, V: Drop>(
     Ok(())
 }
 
-/// Puts the entries of a tree behind those of a vector that has room for them.
+/// Moves the entries of a tree to a vector, after its own. The vector has room for them.
 fn give_back<K: Ord + Drop, V: Drop>(few: &mut Vec<(K, V)>, tree: BTreeMap<K, V>)
     requires { vec_len few.old + length tree.entries ≤ vec_capacity few.old }
     ensures { few.new.items ≡ few.old.items ++ tree.entries }
@@ -75,7 +75,7 @@ fn give_back<K: Ord + Drop, V: Drop>(few: &mut Vec<(K, V)>, tree: BTreeMap<K, V>
     }
 }
 
-/// Moves the entries to a tree, or leaves them all.
+/// Moves all entries to a tree. If memory runs out, they stay.
 pub(crate) fn tree_of<K: Ord + Drop, V: Drop>(
     few: &mut Vec<(K, V)>,
 ) -> Result<BTreeMap<K, V>, AllocError>
@@ -111,7 +111,7 @@ pub(crate) fn value_in<'a, K: Ord, V>(few: &'a Vec<(K, V)>, key: &K) -> Option<&
     }
 }
 
-/// Gives back the room that entries don't need any more: they have as much as if they had come one by one.
+/// Gives back room that the entries don't need any more: as much is left as if they had been inserted one by one.
 fn halve<T>(few: &mut Vec<T>)
     ensures { few.new.items ≡ few.old.items }
 {
@@ -120,7 +120,7 @@ fn halve<T>(few: &mut Vec<T>)
     }
 }
 
-/// Takes the value at a key out, and gives back the room that the others don't need.
+/// Removes the value at a key and returns it. Room that the others don't need is given back.
 pub(crate) fn remove_few<K: Ord + Drop, V: Drop>(few: &mut Vec<(K, V)>, key: &K) -> Option<V>
     requires { IsStrictlySortedBy K.cmp (keys_of few.old.items) }
     ensures value { result ≡ lookup (is_at (K.cmp key.now)) few.old.items }
@@ -137,7 +137,7 @@ pub(crate) fn remove_few<K: Ord + Drop, V: Drop>(few: &mut Vec<(K, V)>, key: &K)
     }
 }
 
-/// How the start of a range stands to a key.
+/// Compares the start of a range with a key.
 fn start_order<K: Ord>(start: Bound<&K>, key: &K) -> Ordering
     ensures { result ≡ start_test K.cmp (bound_map (λ x. x.now) start.entry) key.now }
 {
@@ -148,7 +148,7 @@ fn start_order<K: Ord>(start: Bound<&K>, key: &K) -> Ordering
     }
 }
 
-/// How the end of a range stands to a key.
+/// Compares the end of a range with a key.
 fn end_order<K: Ord>(end: Bound<&K>, key: &K) -> Ordering
     ensures { result ≡ end_test K.cmp (bound_map (λ x. x.now) end.entry) key.now }
 {
@@ -159,7 +159,7 @@ fn end_order<K: Ord>(end: Bound<&K>, key: &K) -> Ordering
     }
 }
 
-/// Passes an equal key, as it does a lesser one.
+/// Counts an equal key like a lesser one.
 fn after_equal(order: Ordering) -> Ordering
     ensures { result ≡ after_equal order }
 {

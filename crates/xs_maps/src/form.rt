@@ -1,4 +1,4 @@
-//! Where the entries of a map lie.
+//! The two forms in which a map stores its entries.
 ghost use Rattle.std.specs.Prelude.{◌≡◌, ◌<◌, ◌^◌, length, Some, None, IfNone, OnOk, OnErr};
 ghost use Rattle.std.specs.Option.{option_copied, option_copied_mut};
 ghost use Rattle.std.specs.Borrow.{sem};
@@ -13,10 +13,10 @@ use std::alloc::AllocError;
 use std::collections::BTreeMap;
 use std::ops::RangeBounds;
 
-/// So many entries lie in a vector.
+/// The most entries in a vector.
 const FEW: usize = 8;
 
-/// Where the entries lie: in the order of their keys in both.
+/// The entries, in the order of their keys in both forms.
 #[derive(Drop)]
 pub(crate) enum Form<K: Ord, V> {
     /// A few, in a vector.
@@ -72,7 +72,7 @@ impl<K: Ord, V> Form<K, V> {
     }
 }
 
-/// Takes the value at a key out of a tree. A tree of no entries takes no memory then.
+/// Removes the value at a key from a tree and returns it. An empty tree then takes no memory.
 fn remove_many<K: Ord + Drop, V: Drop>(many: &mut BTreeMap<K, V>, key: &K) -> Option<V>
     requires { IsOrdered K.cmp many.old }
     ensures value { result ≡ get K.cmp many.old key.now }
@@ -88,7 +88,7 @@ fn remove_many<K: Ord + Drop, V: Drop>(many: &mut BTreeMap<K, V>, key: &K) -> Op
 }
 
 impl<K: Ord + Drop, V: Drop> Form<K, V> {
-    /// Moves the entries to a tree where the vector is full.
+    /// Moves the entries to a tree if the vector is full.
     fn make_room(&mut self) -> Result<(), AllocError>
         requires { IsOrdered K.cmp (seen self.old) }
         ensures { (seen self.new).entries ≡ (seen self.old).entries }
@@ -104,7 +104,7 @@ impl<K: Ord + Drop, V: Drop> Form<K, V> {
         Ok(())
     }
 
-    /// Puts a value at a key, where there is room.
+    /// Inserts a value at a key, if there is room.
     fn put(&mut self, key: K, value: V) -> Result<(), AllocError>
         requires { IsOrdered K.cmp (seen self.old) }
         ensures updates { OnOk result (Updates K.cmp (seen self.old) (seen self.new) key (Some value)) }
@@ -120,7 +120,7 @@ impl<K: Ord + Drop, V: Drop> Form<K, V> {
         }
     }
 
-    /// Puts a value at a key.
+    /// Inserts a value at a key.
     pub(crate) fn insert(&mut self, key: K, value: V) -> Result<(), AllocError>
         requires { IsOrdered K.cmp (seen self.old) }
         ensures updates { OnOk result (Updates K.cmp (seen self.old) (seen self.new) key (Some value)) }
@@ -131,7 +131,7 @@ impl<K: Ord + Drop, V: Drop> Form<K, V> {
         self.put(key, value)
     }
 
-    /// Takes the value at a key out, and gives back the room that the others don't need.
+    /// Removes the value at a key and returns it. Room that the others don't need is given back.
     pub(crate) fn remove(&mut self, key: &K) -> Option<V>
         requires { IsOrdered K.cmp (seen self.old) }
         ensures value { result ≡ get K.cmp (seen self.old) key.now }

@@ -36,7 +36,7 @@ impl<K: Ord, V> Model for SmallMap<K, V> {
 impl<K: Ord, V> SmallMap<K, V> {
     ghost use Rattle.xs_maps.specs.Lends.{lends_value};
 
-    /// No entries. It takes no memory.
+    /// An empty map. It takes no memory.
     pub fn new(alloc: Global) -> Self
         ensures { IsEmpty result }
     {
@@ -47,7 +47,7 @@ impl<K: Ord, V> SmallMap<K, V> {
         }
     }
 
-    /// How many entries there are.
+    /// The number of entries.
     pub fn len(&self) -> usize
         ensures len { result ≡ btree_map_len self.now }
         ensures small { result < 2 ^ 63 }
@@ -136,7 +136,7 @@ impl<K: Ord, V> SmallMap<K, V> {
 }
 
 impl<K: Ord + Drop, V: Drop> SmallMap<K, V> {
-    /// Puts a value at a key.
+    /// Inserts a value at a key.
     pub fn insert(&mut self, key: K, value: V) -> Result<(), AllocError>
         ensures updates { OnOk result (Updates K.cmp self.old self.new key (Some value)) }
         ensures err { OnErr result (IsUnchanged self.old self.new) }
@@ -144,7 +144,7 @@ impl<K: Ord + Drop, V: Drop> SmallMap<K, V> {
         self.form.insert(key, value)
     }
 
-    /// Takes the value at a key out. It takes no memory.
+    /// Removes the value at a key and returns it. It takes no memory.
     pub fn remove(&mut self, key: &K) -> Option<V>
         ensures value { result ≡ get K.cmp self.old key.now }
         ensures updates { UpdatesBy K.cmp (K.cmp key.now) self.old self.new None }

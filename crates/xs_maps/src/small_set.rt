@@ -29,7 +29,7 @@ impl<K: Ord> Model for SmallSet<K> {
 }
 
 impl<K: Ord> SmallSet<K> {
-    /// No keys. It takes no memory.
+    /// An empty set. It takes no memory.
     pub fn new(alloc: Global) -> Self
         ensures { IsEmpty result }
     {
@@ -38,7 +38,7 @@ impl<K: Ord> SmallSet<K> {
         }
     }
 
-    /// How many keys there are.
+    /// The number of keys.
     pub fn len(&self) -> usize
         ensures len { result ≡ btree_set_len self.now }
         ensures small { result < 2 ^ 63 }
@@ -79,7 +79,7 @@ impl<K: Ord> SmallSet<K> {
 }
 
 impl<K: Ord + Drop> SmallSet<K> {
-    /// Puts a key in.
+    /// Inserts a key.
     pub fn insert(&mut self, key: K) -> Result<(), AllocError>
         ensures updates { OnOk result (Updates K.cmp self.old self.new key true) }
         ensures err { OnErr result (IsUnchanged self.old self.new) }
@@ -87,7 +87,7 @@ impl<K: Ord + Drop> SmallSet<K> {
         self.map.insert(key, ())
     }
 
-    /// Takes a key out. It takes no memory.
+    /// Removes a key. It takes no memory.
     pub fn remove(&mut self, key: &K)
         ensures updates { UpdatesBy K.cmp (K.cmp key.now) self.old self.new false }
     {

@@ -2,7 +2,7 @@
 use Rattle.std.specs.Fmt.{digits}
 use Rattle.xs_bytes.specs.SortedMap.{empty, get, insert_by, remove, change}
 
--- its line is what an example names
+-- the definitions that examples compute
 unfoldable pub example_functions : Type 0
 unfolding digits empty get insert_by remove change
 example_functions = Unit {0}

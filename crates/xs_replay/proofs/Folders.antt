@@ -19,7 +19,7 @@ put-same n k x things e = grind (arith, nat_tests)
 put-other : {X : Type 0} → (n k : ℕ) (x : X) (things : ℕ → X) → k ≢ n → put n x things k ≡ things k
 put-other n k x things ne = grind (arith, nat_tests)
 
--- logs that are there are read to the end
+-- logs that exist are read to the end
 logs-read : (logs : ℕ → Option (List Event)) (served : ℕ → List Event) (n below count : ℕ) → below + count ≡ n
     → ((k : ℕ) → below < k → k ≤ n → logs k ≡ Some (served k)) → after_logs logs (left_by served below) (suc below) count ≡ Some (left_by served n)
 logs-read logs served n below zero e are = let at : below ≡ n = omega (arith, e) in ap (λ k. Some (left_by served k)) at
@@ -27,7 +27,7 @@ logs-read logs served n below (suc count) e are =
     ap (option_and_then (λ events. after_logs logs (state_after (left_by served below) events) (suc (suc below)) count)) (are (suc below) (omega arith) (omega (arith, e)))
     ∙ logs-read logs served n (suc below) count (omega (arith, e)) (λ k low high. are k (omega (arith, low)) high)
 
--- a log and its events are put alike
+-- a log and its events are put in the same way
 put-alike : (n : ℕ) (events : List Event) (served : ℕ → List Event) (logs : ℕ → Option (List Event)) (k : ℕ) → (k ≢ n → logs k ≡ Some (served k))
     → put n (Some events) logs k ≡ Some (put n events served k)
 put-alike n events served logs k are = by (cases_eq k n)
@@ -36,7 +36,7 @@ put-alike n events served logs k are = by (cases_eq k n)
     by (inl e) = put-same n k (Some events) logs e ∙ sym (ap (λ l. Some l) (put-same n k events served e))
     by (inr ne) = put-other n k (Some events) logs ne ∙ are ne ∙ sym (ap (λ l. Some l) (put-other n k events served ne))
 
--- what the logs below left stays
+-- what the logs below left is unchanged
 left-below : (n : ℕ) (events : List Event) (served : ℕ → List Event) (below : ℕ) → below < n → left_by (put n events served) below ≡ left_by served below
 left-below n events served zero less = refl
 left-below n events served (suc below) less =
@@ -52,7 +52,7 @@ some-same : (a b : ServerState) → Some a ≡ Some b → a ≡ b
 some-same a b e = cc
 
 module _ (folder : Folder) (served : ℕ → List Event) (last : ℕ) (is : HasServed folder served last) where
-  -- the greatest snapshot is read, and the logs behind it
+  -- the greatest snapshot is read, and the logs from its number on
   from-greatest : (n count : ℕ) (lower snapshot : Option ServerState) → is.below + count ≡ n → n ≤ last → StandsFor served is.below snapshot
       → (is.below ≡ 0 → lower ≡ Some (left_by served n)) → from_snapshot folder.logs (suc is.below) count lower snapshot ≡ Some (left_by served n)
   from-greatest n count lower None e le stands first = first stands
@@ -142,7 +142,7 @@ new-folder = record {
   logs_are = λ n some high. put-same 1 n (Some []) (λ k. None) (omega (arith, some, high));
 }
 
--- ---- what logs left is what all their events leave
+-- ---- what logs left is what all their events left
 
 contents-append : (content : Content) (first more : List Event) → contents_after content (first ++ more) ≡ contents_after (contents_after content first) more
 contents-append content [] more = refl
@@ -169,7 +169,7 @@ same-state one other contents moments =
 pub left-after : (served : ℕ → List Event) (n : ℕ) → left_by served n ≡ state_after new_server (events_up_to served n)
 left-after served n = same-state (left_by served n) (state_after new_server (events_up_to served n)) (left-content served n) (left-moment served n)
 
--- what is found is the content of a run
+-- what a start finds is the content of a run
 pub run-found : (folder : Folder) (served : ℕ → List Event) (last : ℕ) (state : ServerState)
     → AllByRecursion (λ e. IsWellFormed (event_command e)) (events_up_to served last) → HasServed folder served last → recovered folder last ≡ Some state
     → RunsOn empty (events_up_to served last) (model_replies empty (events_up_to served last)) state.content

@@ -1,4 +1,4 @@
--- What events leave has its numbers in range.
+-- The numbers of a content after events are in range.
 use Rattle.std.proofs.Common.{◌≡◌, ℕ, zero, suc, ◌+◌, ◌^◌, ◌<◌, ◌≤◌, nat_lt, Bool, true, false, not, ◌||◌, ◌&&◌, cond, eqb, List, [], ◌∷◌, ◌++◌, map, filter, take}
 use Rattle.std.proofs.Common.{inl, inr, Option, Some, None, IfSome, Result, Ok, Err, refl, sym, ap, ◌∙◌, subst, arith, Ordering}
 use Rattle.std.proofs.lemmas.Bool.{cases_eq, false≢true}
@@ -115,11 +115,11 @@ module _ {K X : Type 0} (R : K → K → Ordering) (Q : K → Type 0) (S : X →
   unfolding empty
   empty-in = tt
 
--- a name has no numbers
+-- names have no numbers
 abbrev pub AnyName : Bytes → Type 0
 AnyName name = Unit {0}
 
--- what is made of what may be found
+-- a value that is made of what may be found
 chosen : {A B : Type 0} (P : B → Type 0) (f : A → B) (o : Option A) (d : B) → ((a : A) → o ≡ Some a → P (f a)) → P d → P (option_map_or f o d)
 chosen P f None d some none = none
 chosen P f (Some a) d some none = some a refl
@@ -197,7 +197,7 @@ trimmed-in trim entries all = chosen (λ es. AllIds (ids_of es)) (λ t. entries_
 trimmed-above : (trim : Option Trim) (entries : Entries) → AllAbove zero_id (ids_of entries) → AllAbove zero_id (ids_of (option_map_or (λ t. entries_after_trim t entries) trim entries))
 trimmed-above trim entries all = chosen (λ es. AllAbove zero_id (ids_of es)) (λ t. entries_after_trim t entries) trim entries (λ t e. above-filter _ zero_id entries all) all
 
--- what is above an id is above 0-0
+-- an id above another is above 0-0
 above-any : (top id : Id) → IsId top → IsId id → is_below top id ≡ true → is_below zero_id id ≡ true
 above-any top id is fits h = by (is_below top zero_id) refl where
   by : (t : Bool) → is_below top zero_id ≡ t → is_below zero_id id ≡ true
@@ -386,7 +386,7 @@ new_key-in = record {
   groups = empty-in (slice_cmp nat_cmp) AnyName GroupFits;
 }
 
--- a key that is there, or may be made
+-- a key that exists or may be created
 made-in : (content : Content) (name : Bytes) (make : Bool) (key : KeyState) → ContentFits content → key_or_new make (get content name) ≡ Some key → KeyFits key
 made-in content name make key all e = by (get content name) refl make e
   where

@@ -17,7 +17,7 @@ use Rattle.xs_tape.proofs.Crashes.{before_zero-written, before_zero-kept}
 use Rattle.xs_tape.proofs.Firsts.{the-first}
 use Rattle.xs_replay.specs.Log.{model_number, IsRecordOf, AreRecordsOf, IsLog, HasEvents}
 
--- the words behind the checksum
+-- the words after the checksum
 pub same-plain : (first other : List ℕ) (plain others : List (List ℕ)) → record_words first plain ≡ record_words other others → (first ≡ other) × (plain ≡ others)
 same-plain first other plain others e =
     let words : map escaped (with_checksum first plain) ≡ map escaped (with_checksum other others) = cc in
@@ -45,7 +45,7 @@ first-events (words ∷ records) (e ∷ events) (suc count) (f ∷ found) are le
     let more = first-events records events count found are.1 (omega (arith, le)) is.1 in
     (ap (λ n. suc n) more.0, ap (λ x. x ∷ found) (one-event words f e is.0 are.0) ∙ ap (λ es. e ∷ es) more.1, omega (arith, more.2))
 
--- a log may have what it has
+-- a log may have these words
 record-may : (words : List (List ℕ)) (event : Event) → IsRecordOf words event → CanBeSpelled words → CanBeLogged words
 record-may words event is can =
     subst CanBeLogged (sym is.stands) (record-logged (decimal event.0) is.plain (subst CanBeSpelled is.stands can))
@@ -62,11 +62,11 @@ log-may number (header ∷ records) events is can =
     let rest = codes "2" ∷ decimal number ∷ decimal model_number ∷ [] in
     (subst CanBeLogged (sym is.0) (record-logged (codes "xs-log") rest (subst CanBeSpelled is.0 can.0)), records-may records events is.1 can.1)
 
--- the text of the first requests stands at the front
+-- the text of the first requests is at the front
 texts-split : (requests : List (List (List ℕ))) (n : ℕ) → spellings requests ≡ spellings (take n requests) ++ spellings (drop n requests)
 texts-split requests n = ap spellings (sym (take-append-drop n requests)) ∙ flat_map-append spelling (take n requests) (drop n requests)
 
--- what is found of a log
+-- the events that are found in a log
 found-events : (number : ℕ) (requests : List (List (List ℕ))) (events : List Event) (count : ℕ) (found : List Event) → IsLog number requests events → count ≤ length requests → IsLog number (take count requests) found
     → (length found ≤ length events) × (found ≡ take (length found) events) × (count ≤ length found + 1)
 found-events number requests events zero found is le left = (omega (arith, ap length left), left ∙ sym (ap (λ f. take (length f) events) left), omega arith)

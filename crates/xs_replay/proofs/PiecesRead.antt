@@ -1,4 +1,4 @@
--- The pieces of a content say it.
+-- The pieces of a content give the content again.
 use Rattle.std.proofs.Common.{◌≡◌, ℕ, List, [], ◌∷◌, ◌++◌, map, refl, ap, ◌∙◌, append_assoc}
 use Rattle.std.proofs.lemmas.List.{append-nil}
 use Rattle.std.specs.List.{flat_map}
@@ -14,7 +14,7 @@ use Rattle.xs_keys.specs.Content.{KeyState, Content}
 use Rattle.xs_keys.proofs.NameMaps.{name_exact}
 use Rattle.xs_replay.specs.Pieces.{Piece, of_key, of_entry, of_group, of_consumer, of_row, pieces_of_group, pieces_of_key, pieces_of, Gathered, with_piece, gathered, content_of}
 
--- a map is made of its entries
+-- a map is made from its entries
 names-made : {X : Type 0} → (m : NameMap X) → from_entries m.entries ≡ m
 unfolding get
 names-made m = sorted.same_map nat_list_cmp_total name_exact (from_entries m.entries) m (λ q. sorted.get-of_entries nat_list_cmp_total m.entries q)

@@ -1,4 +1,4 @@
--- Words that say a piece are those that are written of it.
+-- The words that read as a piece are those that are written for it.
 use Rattle.std.proofs.Common.{◌≡◌, ℕ, ◌+◌, ◌*◌, ◌/◌, ◌%◌, ◌^◌, ◌<◌, nat_lt, true, List, [], ◌∷◌, decimal, codes, bytes_eq}
 use Rattle.std.proofs.Common.{inl, inr, Option, Some, None, option_and_then, refl, ap, ◌∙◌, subst, arith}
 use Rattle.std.proofs.lemmas.Bool.{and_parts, ltb-true}

@@ -83,7 +83,7 @@ pub log-content : (old new : Content) (calls : List Call) → Serves old calls n
 log-content old new [] serves = serves
 log-content old new (call ∷ calls) (between, one, rest) = log-content between new calls rest ∙ log-one call.in_log call old between (log_of calls) one.rule
 
--- the calls that survive, in which the next one is in the log, or isn't
+-- the calls that survive, whether the next one is in the log or not
 survive-none : (b : Bool) (call : Call) (old : Content) (calls : List Call) (between : Content) → call.in_log ≡ b → ServesOne old call between → Serves between (survivors zero calls) between
     → Serves old (if b then [] else call ∷ survivors zero calls) old
 survive-none true call old calls between is one rest = refl

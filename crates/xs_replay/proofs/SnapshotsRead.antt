@@ -1,4 +1,4 @@
--- What is written of a content is read as that, and no snapshot is a beginning of another.
+-- What is written for a content is read as that content, and no snapshot is a beginning of another.
 use Rattle.std.proofs.Common.{◌≡◌, ◌≢◌, ℕ, ◌+◌, ◌*◌, ◌/◌, ◌%◌, ◌^◌, ◌<◌, nat_lt, false, List, [], ◌∷◌, ◌++◌, map, length, decimal, codes, bytes_eq}
 use Rattle.std.proofs.Common.{Option, Some, None, option_and_then, IfSome, refl, sym, ap, ◌∙◌, subst, arith, append_assoc}
 use Rattle.std.proofs.lemmas.Bool.{false≢true, cond-true, lt-ltb}
@@ -109,7 +109,7 @@ same-moment (Some n) (Some m) small less e =
 
 -- ---- snapshots
 
--- no two contents have the same pieces
+-- different contents have different pieces
 same-content : (one other : Content) → pieces_of one ≡ pieces_of other → one ≡ other
 same-content one other e = sym (content-read one) ∙ ap content_of e ∙ content-read other
 
@@ -172,7 +172,7 @@ before-none : (file : List ℕ) → HasNoZero file → before_zero file ≡ file
 before-none [] none = refl
 before-none (byte ∷ file) none = before_zero-more byte file none.0 ∙ ap (λ f. byte ∷ f) (before-none file none.1)
 
--- what a crash leaves of a snapshot is all of it, or none
+-- a crash leaves all of a snapshot, or none of it
 pub crash-whole : (number other kept : ℕ) (bytes file : List ℕ) (state found : ServerState) → IsSnapshotFile number bytes state → CrashLeaves kept bytes file → IsSnapshotFile other file found → file ≡ bytes
 crash-whole number other kept bytes file state found is leaves may =
     let rest = before_zero-written bytes file leaves.others in

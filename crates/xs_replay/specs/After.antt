@@ -1,4 +1,4 @@
--- What events leave.
+-- The content after events.
 use Rattle.std.specs.Prelude.{ℕ, Option, Some, None, List, [], ◌∷◌}
 use Rattle.xs_bytes.specs.SortedMap.{empty}
 use Rattle.xs_resp.specs.declared.reply.Reply.{Reply}
@@ -27,7 +27,7 @@ model_replies content [] = []
 model_replies content (event ∷ events) =
     reply content (event_moment event) (event_command event) ∷ model_replies (after content event) events
 
--- what a server has: its content, and the moment of its last event, if there was one
+-- the state of a server: its content, and the moment of the last event, if there was one
 pub record ServerState : Type 0 where
   pub content : Content
   pub moment : Option ℕ

@@ -1,5 +1,5 @@
--- Calls that were served, and what a log has of them. One rule says what a log may leave out: an event that changed no
--- content.
+-- Calls that were served, and what a log has of them. There is one rule for what a log may leave out: an event that
+-- changed no content.
 use Rattle.std.specs.Prelude.{◌≡◌, ℕ, zero, suc, ◌≤◌, Bool, true, false, ◌||◌, List, [], ◌∷◌, map, length, take}
 use Rattle.std.specs.Prelude.{if◌then◌else◌}
 use Rattle.std.specs.List.{flat_map}
@@ -13,13 +13,13 @@ use Rattle.xs_keys.specs.Content.{Content}
 use Rattle.xs_keys.specs.Step.{Step, is_error}
 use Rattle.xs_replay.specs.After.{after, contents_after}
 
--- a call that was served: its event, the answer, and whether the log has it
+-- a call that was served: its event, the reply, and whether the log has it
 pub record Call : Type 0 where
   pub event : Event
   pub answer : Reply
   pub in_log : Bool
 
--- the rule: an event is left out only if the content stayed
+-- the rule: an event is left out only if the content stayed the same
 abbrev pub KeepsTheRule : Bool → Content → Event → Content → Type 0
 KeepsTheRule true old event new = new ≡ after old event
 KeepsTheRule false old event new = new ≡ old
@@ -46,18 +46,18 @@ abbrev pub log_of : List Call → List Event
 log_of [] = []
 log_of (call ∷ calls) = if call.in_log then call.event ∷ log_of calls else log_of calls
 
--- the calls that survive where the log keeps so many events: those before the first event that it has lost
+-- the calls that survive if the log keeps this many events: those before the first event that is lost
 abbrev pub survivors : ℕ → List Call → List Call
 survivors kept [] = []
 survivors zero (call ∷ calls) = if call.in_log then [] else call ∷ survivors zero calls
 survivors (suc kept) (call ∷ calls) = call ∷ survivors (if call.in_log then kept else suc kept) calls
 
--- a life of a server: the calls that it served, and how many events of its log the next one finds
+-- a life of a server: the calls that it served, and how many events of its log the next life finds
 pub record ServerLife : Type 0 where
   pub calls : List Call
   pub found : ℕ
 
--- lives of a server over one log: each begins with the content of what was found
+-- lives of a server over one log: each begins with the content that was found
 abbrev pub Lives : Content → List ServerLife → Content → Type 0
 Lives old [] new = new ≡ old
 Lives old (life ∷ lives) new =
@@ -79,6 +79,6 @@ only_reads (PendingRows pending) = true
 only_reads (Inspect inspection) = true
 only_reads _ = false
 
--- what a log leaves out: a command that only reads, and one that was refused
+-- a log leaves out a command that only reads, and one that was refused
 abbrev pub is_left_out : Command → Reply → Bool
 is_left_out command answer = only_reads command || is_error answer

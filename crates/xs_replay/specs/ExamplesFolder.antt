@@ -13,7 +13,7 @@ use Rattle.xs_replay.specs.Folder.{Folder, recovered, left_by, events_up_to, Sta
 abbrev pub adding : ℕ → Id → Event
 adding now id = (now, adds None (Exact id))
 
--- the key k has these entries, of which the last is the top, and the last event came at this moment
+-- the key k has these entries, the last of which is the top, and the last event was at this moment
 abbrev pub with_entries : Id → List Id → ℕ → ServerState
 with_entries top ids moment =
     record {
@@ -29,7 +29,7 @@ with_entries top ids moment =
       moment = Some moment;
     }
 
--- one event in the first log, two in the second, none in the third, one in the fourth, whose moment went back
+-- one event in the first log, two in the second, none in the third, one in the fourth, whose moment is earlier
 abbrev pub served : ℕ → List Event
 served =
     put 1 (adding 5 (at 1 0) ∷ []) (

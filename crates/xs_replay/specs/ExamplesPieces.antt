@@ -1,4 +1,4 @@
--- Which pieces a content has, and which content pieces say, by examples. (What the pieces are, and their order, is this
+-- The pieces of a content, and the content of pieces, by examples. (What the pieces are, and their order, is this
 -- server's own.)
 use Rattle.std.specs.Prelude.{◌≡◌, ℕ, List, [], ◌∷◌, codes}
 use Rattle.xs_bytes.specs.SortedMap.{empty, insert, insert_by}
@@ -40,7 +40,7 @@ jobs =
       groups = insert (insert empty (codes "w") workers) (codes "a") auditors;
     }
 
--- a stream whose one entry was deleted
+-- a stream whose only entry was deleted
 abbrev pub spent : KeyState
 spent = record { stream = record { top = at 9 9; entries = []; added = 1; deleted = at 9 9 }; groups = empty }
 

@@ -1,5 +1,5 @@
--- Which events have their numbers in range, by examples. (The bounds are those of the numbers of 64 bits, and of 63,
--- that the program keeps.)
+-- Which events have their numbers in range, by examples. (The bounds are those of the program's numbers of 64 bits and
+-- of 63.)
 use Rattle.std.specs.Prelude.{ℕ, false, Some, None, [], codes}
 use Rattle.xs_stream.specs.declared.add.AddId.TheVariants.{Auto, AutoSeq, Exact}
 use Rattle.xs_stream.specs.declared.trim.Trim.TheVariants.{MaxLen}
@@ -17,7 +17,7 @@ use Rattle.xs_replay.specs.Ranges.{EventFits}
 abbrev pub claims_counted : ℕ → Command
 claims_counted count = claims 0 time.Now (Some count) false []
 
--- a scan that would give a count, which no words ask for
+-- a scan that sets a count, which no words can spell
 abbrev pub scans_counted : ℕ → Command
 scans_counted count =
     command.AutoClaim (record {

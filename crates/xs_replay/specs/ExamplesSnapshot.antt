@@ -79,7 +79,7 @@ pub record InRange : Type 0 where
   pub no_greater_time : Fits (a_row (at 1 0) 9223372036854775808 2) → ⊥
   pub no_greater_count : Fits (a_row (at 1 0) 60 9223372036854775808) → ⊥
 
--- before any event: a header, and an end that counts these pieces
+-- before any event: a header, and an end with the number of pieces
 abbrev pub nothing_but : List ℕ → List (List (List ℕ))
 nothing_but count = snapshot_header 1 None ∷ record_words (codes "END") (count ∷ []) ∷ []
 

@@ -1,4 +1,4 @@
--- Which piece words say. Numbers are read without leading zeros, as they are printed.
+-- The piece that words spell. Numbers are read without leading zeros, as they are printed.
 use Rattle.std.specs.Prelude.{ℕ, ◌+◌, ◌*◌, ◌^◌, nat_lt, List, [], ◌∷◌, codes, bytes_eq, Option, Some, None}
 use Rattle.std.specs.Prelude.{option_and_then, if◌then◌else◌}
 use Rattle.std.specs.Option.{option_map}
@@ -65,7 +65,7 @@ row_of_words (ms ∷ seq ∷ consumer ∷ time ∷ count ∷ []) =
     row_of_parts (id_of_words ms seq) consumer (small_of_word time) (small_of_word count)
 row_of_words _ = None
 
--- the piece that words say, if they say one
+-- the piece that words spell, if they spell one
 abbrev pub piece_of_words : List (List ℕ) → Option Piece
 piece_of_words [] = None
 piece_of_words (kind ∷ values) =

@@ -1,4 +1,4 @@
--- What a snapshot says of a content, piece by piece, and which content pieces say.
+-- The pieces of a content in a snapshot, and the content of pieces.
 use Rattle.std.specs.Prelude.{ℕ, List, [], ◌∷◌, ◌++◌, map}
 use Rattle.std.specs.List.{flat_map}
 use Rattle.xs_bytes.specs.MapOf.{from_entries, of_entries}
@@ -10,7 +10,7 @@ use Rattle.xs_keys.specs.Content.{KeyState, Content}
 
 -- a piece of a content
 pub data Piece : Type 0 where
-  -- a key: its name and its top id, how many entries were ever added, and the greatest id ever deleted
+  -- a key: its name and its top id, the number of entries ever added, and the greatest id ever deleted
   of_key : Bytes → Id → ℕ → Id → Piece
   -- an entry of the last key
   of_entry : Id → List Field → Piece
@@ -37,8 +37,8 @@ pieces_of_key e =
 abbrev pub pieces_of : Content → List Piece
 pieces_of content = flat_map pieces_of_key content.entries
 
--- what pieces say, read from the last one back: the consumers and the rows that a group before them has, the groups and
--- the entries that a key before them has, and the keys that are whole
+-- what pieces give, read from the last one back: the consumers and the rows for a group before them, the groups and the
+-- entries for a key before them, and the keys that are complete
 pub record Gathered : Type 0 where
   pub consumers : List (Bytes × ℕ)
   pub rows : PendingEntries
@@ -49,12 +49,12 @@ pub record Gathered : Type 0 where
 abbrev pub nothing_gathered : Gathered
 nothing_gathered = record { consumers = []; rows = []; groups = []; entries = []; keys = [] }
 
--- a group with the consumers and the rows behind it
+-- a group with the consumers and the rows after it
 abbrev pub group_of : Id → Gathered → GroupState
 group_of cursor g =
     record { cursor = cursor; consumers = from_entries g.consumers; rows = of_entries ids_total g.rows }
 
--- a key with the entries and the groups behind it
+-- a key with the entries and the groups after it
 abbrev pub key_of : Id → ℕ → Id → Gathered → KeyState
 key_of top added deleted g =
     record {
@@ -76,6 +76,6 @@ abbrev pub gathered : List Piece → Gathered
 gathered [] = nothing_gathered
 gathered (piece ∷ pieces) = with_piece piece (gathered pieces)
 
--- the content that pieces say
+-- the content of pieces
 abbrev pub content_of : List Piece → Content
 content_of pieces = from_entries (gathered pieces).keys

@@ -10,22 +10,22 @@ use Rattle.xs_command.specs.declared.command.GroupStart.{GroupStart}
 use Rattle.xs_command.specs.declared.command.GroupStart.TheVariants.{Top, At}
 use Rattle.xs_keys.specs.Event.{Event, event_moment, event_command}
 
--- the id that an addition asks for
+-- the id of an addition
 abbrev pub AddIdFits : AddId → Type 0
 AddIdFits Auto = Unit {0}
 AddIdFits (AutoSeq ms) = ms < 2 ^ 64
 AddIdFits (Exact id) = IsId id
 
--- the id behind which a group starts
+-- the id after which a group starts
 abbrev pub StartFits : GroupStart → Type 0
 StartFits Top = Unit {0}
 StartFits (At id) = IsId id
 
--- the count that a claim gives
+-- the count that a claim sets
 abbrev pub RuleFits : ClaimRule → Type 0
 RuleFits rule = IfSome rule.retry (λ count. count < 2 ^ 63)
 
--- what a command may leave in a content; other numbers are only compared
+-- the numbers that a command may leave in a content; other numbers are only compared
 abbrev pub CommandFits : Command → Type 0
 CommandFits (Add add) = AddIdFits add.id
 CommandFits (GroupCreate create) = StartFits create.start

@@ -13,7 +13,7 @@ abbrev pub moment_words : Option ℕ → List (List ℕ)
 moment_words None = []
 moment_words (Some moment) = decimal moment ∷ []
 
--- what the header of a snapshot says: the format, the number of the log behind it, the model's, and the moment
+-- the values in the header of a snapshot: the format, the number of the log after it, the model's, and the moment
 abbrev pub header_values : ℕ → Option ℕ → List (List ℕ)
 header_values number moment = codes "1" ∷ decimal number ∷ decimal model_number ∷ moment_words moment
 
@@ -23,7 +23,7 @@ snapshot_header number moment = record_words (codes "xs-snapshot") (header_value
 abbrev pub piece_record : Piece → List (List ℕ)
 piece_record piece = record_words (kind_of piece) (values_of piece)
 
--- the end of a snapshot: how many pieces it has
+-- the end of a snapshot, with the number of its pieces
 abbrev pub snapshot_end : List Piece → List (List ℕ)
 snapshot_end pieces = record_words (codes "END") (decimal (length pieces) ∷ [])
 
@@ -31,14 +31,14 @@ snapshot_end pieces = record_words (codes "END") (decimal (length pieces) ∷ []
 abbrev pub piece_records : List Piece → List (List (List ℕ))
 piece_records pieces = map piece_record pieces ++ snapshot_end pieces ∷ []
 
--- these requests are a snapshot of this state, and the log behind it has this number
+-- these requests are a snapshot of this state, and the log after it has this number
 pub record IsSnapshot (number : ℕ) (requests : List (List (List ℕ))) (state : ServerState) : Type 0 where
   pub stands : requests ≡ snapshot_header number state.moment ∷ piece_records (pieces_of state.content)
   pub number_small : number < 2 ^ 64
   pub moment_small : IfSome state.moment (λ moment. moment < 2 ^ 63)
   pub fits : AllByRecursion Fits (pieces_of state.content)
 
--- these bytes are
+-- these bytes are a snapshot of this state, and the log after it has this number
 pub record IsSnapshotFile (number : ℕ) (bytes : List ℕ) (state : ServerState) : Type 0 where
   pub requests : List (List (List ℕ))
   pub bytes_are : bytes ≡ spellings requests

@@ -1,4 +1,4 @@
--- The words of a piece, and which numbers it may have. Numbers stand in decimal.
+-- The words of a piece, and which numbers it may have. Numbers are in decimal.
 use Rattle.std.specs.Prelude.{ℕ, ◌/◌, ◌%◌, ◌^◌, ◌<◌, List, [], ◌∷◌, ◌++◌, decimal, codes}
 use Rattle.std.specs.List.{flat_map}
 use Rattle.xs_stream.specs.declared.id.Id.{Id}
@@ -9,15 +9,15 @@ use Rattle.xs_replay.specs.Pieces.{Piece, of_key, of_entry, of_group, of_consume
 abbrev pub id_words : Id → List (List ℕ)
 id_words id = decimal id.ms ∷ decimal id.seq ∷ []
 
--- a number below 2^128: how often it has 2^64, and the rest
+-- a number below 2^128: its quotient by 2^64, and the remainder
 abbrev pub wide_words : ℕ → List (List ℕ)
 wide_words n = decimal (n / 2 ^ 64) ∷ decimal (n % 2 ^ 64) ∷ []
 
--- each name, and its value behind it
+-- each name, and its value after it
 abbrev pub field_words : List Field → List (List ℕ)
 field_words fields = flat_map (λ field. field.name ∷ field.value ∷ []) fields
 
--- what a piece is
+-- the kind of a piece
 abbrev pub kind_of : Piece → List ℕ
 kind_of (of_key name top added deleted) = codes "KEY"
 kind_of (of_entry id fields) = codes "ENTRY"
@@ -25,7 +25,7 @@ kind_of (of_group name cursor) = codes "GROUP"
 kind_of (of_consumer name moment) = codes "CONSUMER"
 kind_of (of_row id row) = codes "ROW"
 
--- what it has
+-- the values of a piece
 abbrev pub values_of : Piece → List (List ℕ)
 values_of (of_key name top added deleted) = name ∷ (id_words top ++ wide_words added ++ id_words deleted)
 values_of (of_entry id fields) = id_words id ++ field_words fields

@@ -1,13 +1,13 @@
-//! What events are noted in, so that a crash doesn't lose them.
+//! A log of events, which a crash doesn't lose.
 use xs_bytes::Bytes;
 use xs_stream::Moment;
 
-/// A call of a log didn't work. It says no more.
+/// A call of a log failed. It carries no cause.
 #[derive(Clone, Copy, Debug, PartialEq, Eq)]
 pub struct LogFailed;
 
-/// What events are noted in. What was noted is kept once `keep` has come back. Once a call has failed nothing more may
-/// be asked of it.
+/// A log of events. What was noted is kept once `keep` has returned. After a call has failed the log must not be used
+/// any more.
 pub trait EventLog {
     ghost use Rattle.std.specs.Prelude.{◌≡◌, ◌++◌, ◌∷◌, [], ℕ, List, Bool, Ok, false, decimal, length, is_err};
     ghost use Rattle.std.specs.Prelude.{MatchResult};
@@ -17,14 +17,14 @@ pub trait EventLog {
     ghost use Rattle.xs_keys.specs.Event.{Event};
     ghost use Rattle.xs_tape.specs.Records.{CanBeSpelled, record_words};
 
-    /// It has these events, and a crash leaves so many of the first of them at least. If a call has failed, the last of
-    /// them may be written in part.
+    /// It has these events, and a crash leaves at least this many of the first of them. If a call has failed, the last
+    /// of them may be written in part.
     ghost has: { Self → List Event → ℕ → Type 0 };
 
-    /// A call has failed.
+    /// Whether a call has failed.
     ghost broken: { Self → Bool };
 
-    /// Notes the event of a command, which these words say, behind the others.
+    /// Notes the event of a command, which is spelled by these words, after the others.
     fn note(&mut self, now: Moment, words: &[Bytes]) -> Result<(), LogFailed>
         requires sound { broken self.old ≡ false }
         requires short { CanBeSpelled (record_words (decimal now) words.now) }

@@ -1,4 +1,4 @@
-//! Examples of what the definitions say, with values worked out by hand.
+//! Examples of the definitions, with expected values worked out by hand.
 #![tactic(auto, unfolding(crate::proofs::Computing::example_functions))]
 
 ghost use Rattle.xs_replay.specs.ExamplesPieces.{Written, Said};
@@ -11,7 +11,7 @@ pub fn written()
     ensures { Written }
 {}
 
-/// The content that pieces say.
+/// The content of pieces.
 pub fn said()
     ensures { Said }
 {}
@@ -26,7 +26,7 @@ pub fn left()
     ensures { Left }
 {}
 
-/// What a snapshot stands for, and what a folder has served.
+/// Which logs a snapshot replaces, and what a folder has served.
 pub fn standing()
     ensures { Standing }
 {}
@@ -36,7 +36,7 @@ pub fn words()
     ensures { Words }
 {}
 
-/// The piece that words say.
+/// The piece that words spell.
 pub fn readings()
     ensures { Readings }
 {}

@@ -1,11 +1,12 @@
-//! The numbers of the events of the program are in range, as their types say. Each function does nothing.
+//! The numbers of the program's events are in range, as their types ensure. Each function has an empty body or only
+//! calls others.
 ghost use Rattle.xs_replay.specs.Ranges.{AddIdFits, StartFits, RuleFits, EventFits};
 
 use xs_command::{Command, GroupStart};
 use xs_group::ClaimRule;
 use xs_stream::{AddId, Moment};
 
-/// The id that an addition asks for.
+/// The id of an addition.
 fn add_id_fits(id: AddId)
     ensures { AddIdFits id }
 {
@@ -16,7 +17,7 @@ fn add_id_fits(id: AddId)
     }
 }
 
-/// The id behind which a group starts.
+/// The id after which a group starts.
 fn start_fits(start: GroupStart)
     ensures { StartFits start }
 {
@@ -26,7 +27,7 @@ fn start_fits(start: GroupStart)
     }
 }
 
-/// The count that a claim gives.
+/// The count that a claim sets.
 fn rule_fits(rule: ClaimRule)
     ensures { RuleFits rule }
 {
@@ -35,7 +36,7 @@ fn rule_fits(rule: ClaimRule)
     }
 }
 
-/// A command at a moment: what such events leave can be written.
+/// A command at a moment: the content after such events can be written.
 pub fn an_event_fits(now: Moment, command: &Command)
     ensures { EventFits (now, command.now) }
 {

@@ -1,4 +1,4 @@
-//! Laws of logs and snapshots. Each is a function that does nothing.
+//! Laws of logs and snapshots. Each is a function with an empty body.
 ghost use Rattle.std.specs.Prelude.{◌≡◌, ◌≢◌, ◌+◌, ◌<◌, ◌≤◌, ◌^◌, ℕ, suc, List, [], ◌∷◌, ◌++◌, false, true, not};
 ghost use Rattle.std.specs.Prelude.{length, take, Some, None, IfSome};
 ghost use Rattle.std.specs.List.{AllByRecursion};
@@ -24,7 +24,7 @@ ghost use Rattle.xs_replay.specs.PieceReading.{piece_of_words};
 ghost use Rattle.xs_replay.specs.Snapshot.{IsSnapshotFile};
 ghost use Rattle.xs_replay.specs.Ranges.{EventFits};
 
-/// What a crash leaves of a log has a beginning of its events, among them all whose records, behind the header, were
+/// What a crash leaves of a log has a beginning of its events, including all whose records, after the header, were
 /// kept.
 pub fn a_crash_leaves_the_first_events()
     ensures { (number : ℕ) (requests : List (List (List ℕ))) (events : List Event) (kept : ℕ) (file : List ℕ)
@@ -40,7 +40,8 @@ pub fn a_log_is_a_run()
         RunsOn start events (model_replies start events) (contents_after start events) }
 {}
 
-/// The rule holds of a call that is left out because it only reads or was refused, and of any other that is in the log.
+/// The rule holds for a call that is left out because it only reads or was refused, and for any other that is in the
+/// log.
 pub fn reads_and_refusals_may_be_left_out()
     ensures { (old : Content) (now : ℕ) (command : Command) (answer : Reply) (new : Content) →
         IsWellFormed command → Step old now command answer new →
@@ -53,13 +54,13 @@ pub fn a_log_has_the_content()
         new ≡ contents_after old (log_of calls) }
 {}
 
-/// Where a log keeps the first of its events, the calls before the first lost one survive. They were served as they
-/// were answered, and their content is that of what was kept.
+/// If a log keeps the first of its events, the calls before the first lost one survive. They were served with the
+/// replies that they got, and their content is that of the events that were kept.
 pub fn a_crash_cuts_the_calls()
     ensures served { (old new : Content) (calls : List Call) (kept : ℕ) → Serves old calls new →
         Serves old (survivors kept calls) (contents_after old (take kept (log_of calls))) }
     ensures log { (calls : List Call) (kept : ℕ) → log_of (survivors kept calls) ≡ take kept (log_of calls) }
-    // They are the first of the calls, and among them is each beginning whose events are kept.
+    // They are the first of the calls, and include each beginning whose events are kept.
     ensures first { (calls : List Call) (kept : ℕ) →
         survivors kept calls ≡ take (length (survivors kept calls)) calls }
     ensures all { (calls others : List Call) (kept : ℕ) → length (log_of calls) ≤ kept →
@@ -87,7 +88,7 @@ pub fn calls_are_a_run()
 {}
 
 /// The lives of a server over one log are one history: the calls that survived, of all lives in their order, are one
-/// run, and the headline holds of it whole.
+/// run, and the headline holds for the whole run.
 pub fn lives_are_one_history()
     ensures run { (old new : Content) (lives : List ServerLife) → Lives old lives new →
         RunsOn old (events_of (survivors_of lives)) (answers_of (survivors_of lives)) new }
@@ -96,21 +97,21 @@ pub fn lives_are_one_history()
         × Headline [] (events_of (survivors_of lives)) (answers_of (survivors_of lives)) history }
 {}
 
-/// The pieces of a content say it, to the last count: no two contents have the same pieces.
+/// The pieces of a content determine it exactly: different contents have different pieces.
 pub fn a_snapshot_says_its_content()
     ensures { (content : Content) → content_of (pieces_of content) ≡ content }
 {}
 
-/// A start reads the greatest snapshot of a folder and the logs from its number on, and finds what all events left. So
-/// it is while events are appended and logs begun, whatever snapshot a follower puts that has read the closed logs, in
-/// whatever order what lies below is removed, and where a crash takes events from the end of the last log.
+/// A start reads the greatest snapshot of a folder and the logs from its number on, and finds what all events left.
+/// This stays true while events are appended and logs begun, whatever snapshot is put by a follower that has read the
+/// closed logs, in whatever order files below it are removed, and if a crash takes events from the end of the last log.
 pub fn the_greatest_snapshot_wins()
-    // So does a follower that reads the logs up to an earlier one.
+    // The same is true of a follower that reads the logs up to an earlier one.
     ensures recovers { (folder : Folder) (served : ℕ → List Event) (last n : ℕ) (is : HasServed folder served last) →
         is.below < n → n ≤ last → recovered folder n ≡ Some (left_by served n) }
     ensures leaves { (served : ℕ → List Event) (n : ℕ) →
         left_by served n ≡ state_after new_server (events_up_to served n) }
-    // What is found is the content of a run of all events, also of those that no file has any more.
+    // What is found is the content of a run of all events, including those that no file has any more.
     ensures runs { (folder : Folder) (served : ℕ → List Event) (last : ℕ) (state : ServerState) →
         AllByRecursion (λ e. IsWellFormed (event_command e)) (events_up_to served last) →
         HasServed folder served last → recovered folder last ≡ Some state →
@@ -126,7 +127,7 @@ pub fn the_greatest_snapshot_wins()
     ensures begins { (folder : Folder) (served : ℕ → List Event) (last : ℕ) → HasServed folder served last →
         HasServed (record folder { logs = put (suc last) (Some []) folder.logs })
         (put (suc last) [] served) (suc last) }
-    // A snapshot gets the number of the log behind those that were read.
+    // A snapshot gets the number of the log after those that were read.
     ensures puts { (folder : Folder) (served : ℕ → List Event) (last n : ℕ) (state : ServerState)
         (is : HasServed folder served last) → is.below < n → n < last → recovered folder n ≡ Some state →
         HasServed (record folder { snapshots = put (suc n) (Some state) folder.snapshots }) served last }
@@ -138,27 +139,27 @@ pub fn the_greatest_snapshot_wins()
         HasServed (record folder { logs = put n None folder.logs }) served last }
 {}
 
-/// The words of a piece say it, and no other words do.
+/// The words of a piece read as that piece, and no other words do.
 pub fn a_piece_is_spelled_in_one_way()
     ensures said { (piece : Piece) → Fits piece → piece_of_words (words_of_piece piece) ≡ Some piece }
     ensures only { (words : List (List ℕ)) (piece : Piece) → piece_of_words words ≡ Some piece →
         (words ≡ words_of_piece piece) × Fits piece }
 {}
 
-/// The bytes of a snapshot say which state it is of, and which log goes on from it. Where they are cut, or anything
-/// stands behind them, they are no snapshot.
+/// The bytes of a snapshot determine its state and the number of the log that continues it. If they are cut, or
+/// anything follows them, they aren't a snapshot.
 pub fn a_snapshot_is_whole()
     ensures only { (number other : ℕ) (bytes : List ℕ) (state found : ServerState) →
         IsSnapshotFile number bytes state → IsSnapshotFile other bytes found → (number ≡ other) × (state ≡ found) }
     ensures whole { (number other : ℕ) (bytes more : List ℕ) (state found : ServerState) → more ≢ [] →
         IsSnapshotFile number bytes state → IsSnapshotFile other (bytes ++ more) found → ⊥ }
-    // What a crash leaves of a snapshot is all of it, or none.
+    // A crash leaves all of a snapshot, or none of it.
     ensures crash { (number other kept : ℕ) (bytes file : List ℕ) (state found : ServerState) →
         IsSnapshotFile number bytes state → CrashLeaves kept bytes file → IsSnapshotFile other file found →
         file ≡ bytes }
 {}
 
-/// Whatever events leave has its numbers in range, if theirs are.
+/// After events whose numbers are in range, the numbers of the content are in range.
 pub fn what_events_leave_can_be_written()
     ensures pieces { (events : List Event) → AllByRecursion EventFits events →
         AllByRecursion Fits (pieces_of (contents_after empty events)) }

@@ -1,5 +1,5 @@
-//! What logs and snapshots stand for: events, and the content that they leave; what a log may leave out, and what a
-//! snapshot says; and what events are noted in.
+//! The meaning of logs and snapshots: events, and the content after them; what a log may leave out; the words of a
+//! snapshot; and the trait of a log of events.
 #![tactic(auto)]
 
 pub mod event_log;

@@ -6,7 +6,7 @@ use Rattle.xs_resp.specs.HeaderPart.{number_in, is_natural}
 use Rattle.xs_resp.specs.Header.{header, line_at}
 use Rattle.xs_resp.specs.Reading.{bulk_string, words, request}
 
--- its line is what an example names
+-- the definitions that examples compute
 unfoldable pub example_functions : Type 0
 unfolding digits fault_text text line_at number_in is_natural header bulk_string words request
 example_functions = Unit {0}

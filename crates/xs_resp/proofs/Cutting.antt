@@ -1,4 +1,4 @@
--- It doesn't matter how the bytes are cut.
+-- The result doesn't depend on how the bytes are cut.
 use Rattle.std.proofs.Common.{◌≡◌, ℕ, List, [], ◌∷◌, ◌++◌, drop, Some, None, Ok, Err, refl, sym, ap, ◌∙◌, subst}
 use Rattle.std.proofs.Common.{append_assoc, ◌<◌, ◌≤◌, zero, suc, length, inl, inr, arith, length-drop}
 use Rattle.std.proofs.lemmas.List.{length-take-le, drop-append-le, append-nil}
@@ -11,11 +11,11 @@ use Rattle.xs_resp.specs.Pieces.{Rests, Reads, ReadsHeld, ReadsPieces}
 use Rattle.xs_resp.proofs.Outcomes.{cases-outcome}
 use Rattle.xs_resp.proofs.Decisions.{request-keeps, request-read}
 
--- a request that is whole stays whole
+-- a complete request stays complete
 request-later : (bytes more : List ℕ) (found : Found) → request bytes ≡ Ok (Some found) → request (bytes ++ more) ≡ Ok (Some found)
 request-later bytes more found e = subst (λ o. Keeps o (request (bytes ++ more))) e (request-keeps bytes more)
 
--- what rests, fed a piece
+-- the bytes that stay, with a piece more
 rests-with-more : (outcome : Outcome Found) (bytes piece : List ℕ) (old new : Held) (first : List (List (List ℕ))) → Keeps outcome (request (bytes ++ piece)) → Rests outcome bytes old → ReadsHeld (with_piece old piece) first new → Reads (bytes ++ piece) first new
 rests-with-more (Ok (Some found)) bytes piece old new first k r h = absurd r
 rests-with-more (Ok None) bytes piece old new first k r h = subst (λ o. ReadsHeld (with_piece o piece) first new) r h
@@ -23,7 +23,7 @@ rests-with-more (Err wrong) bytes piece old new first k r h =
     let failed = subst (λ o. ReadsHeld (with_piece o piece) first new) r h in
     subst (λ ts. Reads (bytes ++ piece) ts new) (sym failed.0) (subst (λ o. Rests o (bytes ++ piece) new) (sym k) failed.1)
 
--- requests before a piece and behind it
+-- requests before a piece and after it
 reads-with-more : (done : List (List (List ℕ))) (bytes piece : List ℕ) (old new : Held) (first : List (List (List ℕ))) → Reads bytes done old → ReadsHeld (with_piece old piece) first new → Reads (bytes ++ piece) (done ++ first) new
 reads-with-more [] bytes piece old new first r h = rests-with-more (request bytes) bytes piece old new first (request-keeps bytes piece) r h
 reads-with-more (words ∷ done) bytes piece old new first r h =
@@ -37,7 +37,7 @@ reads-with-more (words ∷ done) bytes piece old new first r h =
       ),
     )
 
--- pieces behind bytes
+-- pieces after bytes
 pub pieces-joined : (pieces : List (List ℕ)) (bytes : List ℕ) (done requests : List (List (List ℕ))) (old new : Held) → Reads bytes done old → ReadsPieces old pieces requests new → Reads (bytes ++ concat pieces) (done ++ requests) new
 pieces-joined [] bytes done requests old new r h =
     subst (λ b. Reads b (done ++ requests) new) (sym (append-nil bytes))
@@ -47,12 +47,12 @@ pieces-joined (piece ∷ pieces) bytes done requests old new r h =
     subst (λ b. Reads b (done ++ requests) new) (append_assoc bytes piece (concat pieces))
     (subst (λ rs. Reads ((bytes ++ piece) ++ concat pieces) rs new) (append_assoc done h.first h.others ∙ ap (λ rs. done ++ rs) (sym h.all)) more)
 
--- nothing is read of nothing
+-- no requests are read from no bytes
 pub nothing-read : Reads [] [] (Ok [])
 unfolding request header
 nothing-read = refl
 
--- what bytes read as is one
+-- the reading of bytes is unique
 rests-only : (outcome : Outcome Found) (bytes : List ℕ) (held other : Held) → Rests outcome bytes held → Rests outcome bytes other → held ≡ other
 rests-only (Ok (Some found)) bytes held other r s = absurd r
 rests-only (Ok None) bytes held other r s = r ∙ sym s

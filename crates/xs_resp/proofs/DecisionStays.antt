@@ -1,4 +1,4 @@
--- What is decided on some bytes stays so on every continuation.
+-- What is decided on some bytes stays decided on every continuation.
 use Rattle.std.proofs.Common.{◌≡◌, ℕ, ◌+◌, ◌<◌, ◌≤◌, suc, true, false, cond, eqb, ltb, leb, List, [], ◌∷◌, ◌++◌, length}
 use Rattle.std.proofs.Common.{take, drop, get_or, inl, inr, None, Ok, Err, refl, sym, ap, ◌∙◌, arith, length-append}
 use Rattle.std.proofs.lemmas.Bool.{cond_both, cond-true, cond-false, cases_lt, le-leb, lt-leb, le-ltb, leb-true}
@@ -31,7 +31,7 @@ text_len-append (byte ∷ line) more h =
       | false ↦ λ l. refl
     ]) h
 
--- a line that is whole
+-- a line that is complete
 pub line_at-whole : (part : Part) (line : List ℕ) (cr : ℕ) → cr < 30 → cr + 2 ≤ length line → line_at part line cr ≡ cond (eqb (get_or line (cr + 1) 0) 10) (within_limit part (cr + 3) (number_in part (take cr line))) (Err Shape)
 unfolding line_at
 line_at-whole part line cr short whole =

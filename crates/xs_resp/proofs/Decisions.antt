@@ -22,7 +22,7 @@ use Rattle.xs_resp.proofs.Headers.{header-fault, header-err, header-line, begins
 use Rattle.xs_resp.proofs.SentWords.{word-err}
 use Rattle.xs_resp.proofs.Sequences.{words-read, words-fault, words-sent, words-keep}
 
--- what a request reads behind its header
+-- what a request reads after its header
 behind-header : List ℕ → Header → Outcome Found
 behind-header bytes h = behind_words [] h.end (words h.number (drop h.end bytes))
 
@@ -30,7 +30,7 @@ behind-header bytes h = behind_words [] h.end (words h.number (drop h.end bytes)
 front-is : (bytes text rest : List ℕ) (n : ℕ) → bytes ≡ text ++ rest → n ≡ length text → take n bytes ≡ text
 front-is bytes text rest n e len = ap (take n) e ∙ take_at text rest n (sym len)
 
--- a request that was read stands there
+-- a request that was read is there
 pub record IsSpelled (bytes : List ℕ) (found : Found) : Type 0 where
   pub within : found.end ≤ length bytes
   pub spells : Spells (take found.end bytes) found.words
@@ -114,7 +114,7 @@ request-spelled bytes found s =
     ∙ spelled-read (take found.end bytes) found.words (drop found.end bytes) s.spells
     ∙ ap (λ n. Ok (Some (record { words = found.words; end = n }))) (length-take-le found.end bytes s.within)
 
--- a fault that was met in a request stands in it
+-- a fault that was found in a request is in it
 pub request-fault : (bytes : List ℕ) (wrong : ProtocolFault) → request bytes ≡ Err wrong → FaultIn bytes wrong
 unfolding request
 request-fault bytes wrong e =
@@ -140,7 +140,7 @@ request-fault bytes wrong e =
           ])
     ]
 
--- and the other way
+-- the converse
 behind-fault : (bytes : List ℕ) (wrong : ProtocolFault) → FaultBehind bytes wrong → request bytes ≡ Err wrong
 unfolding request words
 behind-fault bytes wrong f =
@@ -160,7 +160,7 @@ pub fault-request : (bytes : List ℕ) (wrong : ProtocolFault) → FaultIn bytes
 fault-request bytes wrong (inl f) = request-err bytes wrong (header-err Count bytes wrong f)
 fault-request bytes wrong (inr f) = behind-fault bytes wrong f
 
--- nothing is decided exactly where neither holds
+-- no decision exactly if neither holds
 pub request-open : (bytes : List ℕ) → request bytes ≡ Ok None → IsOpen bytes
 request-open bytes e = (
   λ front rest texts is s. let read = sym e ∙ ap request is ∙ spelled-read front texts rest s in cc,
@@ -180,7 +180,7 @@ open-request bytes open' =
       ]
     ]
 
--- what is decided on some bytes stays so
+-- what is decided on some bytes stays decided
 pub request-keeps : (bytes more : List ℕ) → Keeps (request bytes) (request (bytes ++ more))
 unfolding request
 request-keeps bytes more =

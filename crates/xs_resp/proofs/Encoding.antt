@@ -1,4 +1,4 @@
--- What is left of a reply that is written piece by piece.
+-- What is left of a reply that is written in pieces.
 use Rattle.std.proofs.Common.{◌≡◌, ℕ, zero, suc, ◌+◌, Bool, true, false, List, [], ◌∷◌, ◌++◌, length, take, drop, refl}
 use Rattle.std.proofs.Common.{sym, ap, ◌∙◌, ◌<◌, add-one, append_assoc, arith, length-append}
 use Rattle.std.proofs.lemmas.List.{append-nil}
@@ -27,21 +27,21 @@ strings-more (suc i) [] ts t is = cc
 strings-more (suc i) (u ∷ us) ts t is =
     ap (λ s. string_of u ++ s) (strings-more i us ts t is) ∙ sym (append_assoc (string_of u) (strings_of (take i us)) (string_of t))
 
--- behind a token the strings are longer by its own
+-- after a token the strings are longer by its own
 pub strings-next : (i at next end : ℕ) (tokens ts : List Token) (t : Token) (string : List ℕ) → at ≡ length (strings_of (take i tokens)) → drop i tokens ≡ t ∷ ts
     → string_of t ≡ string → next ≡ i + 1 → end ≡ at + length string → end ≡ length (strings_of (take next tokens))
 strings-next i at next end tokens ts t string at_is is string_is next_is end_is =
     rw (next_is, add-one, strings-more i tokens ts t is)
     (omega (arith, at_is, end_is, ap length string_is, length-append (strings_of (take i tokens)) (string_of t)))
 
--- a token that is written whole
+-- a token that is written completely
 pub text-next : (i next : ℕ) (tokens : List Token) (t : Token) (old new all : List ℕ) → drop i tokens ≡ t ∷ drop (i + 1) tokens → next ≡ i + 1
     → old ++ flat_map token_text (drop i tokens) ≡ all → new ≡ old ++ token_text t → new ++ flat_map token_text (drop next tokens) ≡ all
 text-next i next tokens t old new all is next_is so_far new_is =
     let rest = flat_map token_text (drop (i + 1) tokens) in
     rw (new_is, next_is) (append_assoc old (token_text t) rest ∙ ap (λ ts. old ++ flat_map token_text ts) (sym is) ∙ so_far)
 
--- what is gathered is all that is left, if nothing is behind it
+-- what is gathered is all that is left, if nothing follows it
 pub gathered-alone : (gathered : List ℕ) (lent : Bool) (tokens : List Token) → (pieces gathered lent tokens).behind ≡ [] → gathered ≡ bytes_left (pieces gathered lent tokens)
 gathered-alone [] true [] none = refl
 gathered-alone [] true (t ∷ ts) none = cc
@@ -52,7 +52,7 @@ some-append : (a b : List ℕ) → 0 < length a → a ++ b ≡ [] → ⊥
 some-append [] b some none = omega (arith, some)
 some-append (x ∷ xs) b some none = cc
 
--- behind a piece there is more, if a string is lent
+-- more follows a piece if a string is lent
 pub more-lent : (gathered : List ℕ) (tokens : List Token) → HasString tokens → (pieces gathered true tokens).behind ≡ [] → ⊥
 more-lent gathered [] string none = string
 more-lent [] (t ∷ ts) string none = cc

@@ -1,4 +1,4 @@
--- The words of a whole request, one after the other.
+-- The words of a complete request, one after the other.
 use Rattle.std.proofs.Common.{◌≡◌, ℕ, ◌+◌, ◌-◌, suc, List, [], ◌∷◌, ◌++◌, length, drop, Some, None, Ok, Err, refl}
 use Rattle.std.proofs.Common.{sym, ap, ◌∙◌, subst}
 use Rattle.xs_resp.specs.declared.header.Part.TheVariants.{Count}
@@ -10,13 +10,13 @@ use Rattle.xs_resp.specs.Reading.{Found, bulk_string, text_in, behind_words, wor
 use Rattle.xs_resp.proofs.Outcomes.{bind-ok}
 use Rattle.xs_resp.proofs.Sequences.{words-read}
 
--- words behind words
+-- words after words
 in-after : (first : List (List ℕ)) (at : ℕ) (rest : Outcome Found) → IsWhole rest → words_in (behind_words first at rest) ≡ first ++ words_in rest
 in-after first at (Ok (Some found)) whole = refl
 in-after first at (Ok None) whole = absurd (let read = whole.1 in cc)
 in-after first at (Err wrong) whole = absurd (let read = whole.1 in cc)
 
--- there are as many words as are asked for
+-- there are as many words as the count
 pub words-count : (count : ℕ) (bytes : List ℕ) → IsWhole (words count bytes) → length (words_in (words count bytes)) ≡ count
 words-count count bytes whole = ap (λ o. length (words_in o)) whole.1 ∙ (words-read count bytes whole.0 whole.1).count
 
@@ -25,7 +25,7 @@ pub no-words : (count : ℕ) (bytes : List ℕ) → count ≡ 0 → words_in (wo
 unfolding words
 no-words count bytes e = ap (λ n. words_in (words n bytes)) e
 
--- the first word, which is whole, and those behind it, which are
+-- the first word and those after it are complete
 pub record IsFirst (left : ℕ) (bytes : List ℕ) : Type 0 where
   pub span : Span
   pub read : bulk_string bytes ≡ Ok (Some span)
@@ -48,11 +48,11 @@ first-of left bytes whole =
       words_are = ap words_in is ∙ in-after (text_in bytes span ∷ []) (span.end + 2) rest behind;
     }
 
--- where there are words
+-- if there are words
 pub first-word : (count : ℕ) (bytes : List ℕ) → (count ≡ suc (count - 1)) → IsWhole (words count bytes) → IsFirst (count - 1) bytes
 first-word count bytes is whole = first-of (count - 1) bytes (subst (λ n. IsWhole (words n bytes)) is whole)
 
--- a whole request has a header, and that many words
+-- a complete request has a header, and that many words
 pub request-whole : (bytes : List ℕ) → IsWhole (request bytes) → (h : Header) × (header Count bytes ≡ Ok (Some h)) × IsWhole (words h.number (drop h.end bytes))
 unfolding request
 request-whole bytes whole =
@@ -60,7 +60,7 @@ request-whole bytes whole =
     let rest = bind-ok (words (read.0).number (drop (read.0).end bytes)) _ whole.0 read.2 in
     (read.0, read.1, (rest.0, rest.1))
 
--- its words are those behind its header, which are whole
+-- its words are those after its header, which are complete
 pub behind-header : (bytes : List ℕ) (h : Header) → header Count bytes ≡ Ok (Some h) → IsWhole (request bytes)
     → IsWhole (words h.number (drop h.end bytes)) × (words_in (words h.number (drop h.end bytes)) ≡ words_in (request bytes))
 unfolding request

@@ -51,7 +51,7 @@ cr-at (byte ∷ bytes) h =
           })
     ]
 
--- how many bytes stand before the first CR, from the text
+-- the number of bytes before the first CR, from the text
 text_len-text : (text rest : List ℕ) → HasNoCr text → text_len (text ++ (13 ∷ rest)) ≡ length text
 text_len-text [] rest h = refl
 text_len-text (byte ∷ text) rest h =
@@ -78,7 +78,7 @@ first-is : (bytes : List ℕ) → 0 < length bytes → bytes ≡ get_or bytes 0 
 first-is [] h = absurd (omega arith)
 first-is (byte ∷ bytes) h = refl
 
--- a line that is whole
+-- a line that is complete
 line-begins : (part : Part) (bytes : List ℕ) → text_len bytes < 30 → text_len bytes + 2 ≤ length bytes → BeginsLine part (marker part ∷ bytes) (take (text_len bytes) bytes) (get_or bytes (text_len bytes + 1) 0)
 line-begins part bytes short whole =
     let cr = text_len bytes in
@@ -95,7 +95,7 @@ line-begins part bytes short whole =
       no_cr = subst (λ t. HasNoCr t) (sym text) parts.no_cr;
     }
 
--- a header whose line is whole, as it is read
+-- a header whose line is complete, as it is read
 pub begins-header : (part : Part) (bytes text : List ℕ) (byte : ℕ) → BeginsLine part bytes text byte → header part bytes ≡ cond (eqb byte 10) (within_limit part (length text + 3) (number_in part text)) (Err Shape)
 unfolding header
 begins-header part bytes text byte begins =
@@ -143,7 +143,7 @@ limited-err part end (Some n) wrong e =
       | inr w ↦ absurd (cc)
     ]
 
--- a fault that was met in a line stands in it
+-- a fault that was found in a line is in it
 line-fault : (part : Part) (bytes : List ℕ) (wrong : ProtocolFault) → line_at part bytes (text_len bytes) ≡ Err wrong → HeaderFault part (marker part ∷ bytes) wrong
 unfolding line_at
 line-fault part bytes wrong e =
@@ -186,7 +186,7 @@ header-fault part (byte ∷ bytes) wrong e =
           subst (HeaderFault part (byte ∷ bytes)) is (inl (record { byte = byte; rest = bytes; whole = refl; other = eqb-false byte (marker part) w.0 })))
     ]
 
--- and the other way
+-- the converse
 pub header-err : (part : Part) (bytes : List ℕ) (wrong : ProtocolFault) → HeaderFault part bytes wrong → header part bytes ≡ Err wrong
 unfolding header line_at
 header-err part bytes Length f = begins-header part bytes f.text 10 f.begins ∙ ap (within_limit part (length f.text + 3)) f.none
@@ -214,7 +214,7 @@ header-line part n rest h small =
     ∙ cond-false (ltb (limit part) n) _ _ (le-ltb (limit part) n h)
     ∙ ap (λ end. Ok (Some (record { number = n; end = end }))) (omega (arith, length-append (decimal n) crlf))
 
--- the text of a whole line, cut at its end
+-- the text of a complete line, cut at its end
 line-cut : (part : Part) (bytes text : List ℕ) → (begins : BeginsLine part bytes text 10) → drop (length text + 3) bytes ≡ begins.rest
 line-cut part bytes text begins =
     let whole : bytes ≡ ((marker part ∷ text) ++ crlf) ++ begins.rest = begins.whole ∙ ap (λ l. marker part ∷ l) (sym (append_assoc text crlf begins.rest)) in

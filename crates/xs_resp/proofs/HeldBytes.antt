@@ -10,13 +10,13 @@ use Rattle.xs_resp.specs.Progress.{IsProgressOf}
 use Rattle.xs_resp.specs.declared.progress.Progress.{Progress}
 use Rattle.xs_resp.proofs.Progressing.{follows-all}
 
--- whether a request is whole, by the outcome of the held bytes
+-- whether a request is complete, by the outcome of the held bytes
 pub Ready-by : (held : Held) (bytes : List ℕ) (outcome : Outcome Found) (result : Result Bool ReadFault) (new : Held) → held ≡ Ok bytes → request bytes ≡ outcome → ReadyOf bytes outcome result new
     → Ready held result new
 Ready-by held bytes outcome result new is e ready =
     subst (λ h. Ready h result new) (sym is) (subst (λ o. ReadyOf bytes o result new) (sym e) ready)
 
--- a request is whole once no word is left
+-- a request is complete once no word is left
 pub ready-reached : (held : Held) (bytes : List ℕ) (progress : Progress) → held ≡ Ok bytes → IsProgressOf bytes progress → (0 < progress.left → request bytes ≡ Ok None)
     → Ready held (Ok (progress.left == 0)) (Ok bytes)
 ready-reached held bytes progress is f none = by-left (progress.left == 0) refl

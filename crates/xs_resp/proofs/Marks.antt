@@ -13,7 +13,7 @@ pub lengths-append : (ms ns : List Mark) → strings_length (ms ++ ns) ≡ strin
 lengths-append [] ns = omega arith
 lengths-append (m ∷ ms) ns = omega (arith, lengths-append ms ns)
 
--- the strings of the later tokens stand behind those of the earlier ones
+-- the strings of the later tokens follow those of the earlier ones
 pub tokens-append : (ms ns : List Mark) (strings : List ℕ)
     → tokens_in (ms ++ ns) strings ≡ tokens_in ms strings ++ tokens_in ns (drop (strings_length ms) strings)
 tokens-append [] ns strings = refl
@@ -22,7 +22,7 @@ tokens-append (m ∷ ms) ns strings =
     ap (λ ts. token_in m (take (string_length m) strings) ∷ ts) (tokens-append ms ns behind
     ∙ ap (λ rest. tokens_in ms behind ++ tokens_in ns rest) (drop-drop (strings_length ms) (string_length m) strings))
 
--- bytes behind the strings are no token's
+-- bytes after the strings belong to no token
 pub tokens-within : (ms : List Mark) (strings more : List ℕ) → strings_length ms ≤ length strings
     → tokens_in ms (strings ++ more) ≡ tokens_in ms strings
 tokens-within [] strings more fits = refl
@@ -33,7 +33,7 @@ tokens-within (m ∷ ms) strings more fits =
     rw (take-append-le n strings more here, drop-append-le n strings more here)
     (ap (λ ts. token_in m (take n strings) ∷ ts) (tokens-within ms (drop n strings) more left))
 
--- a token more, whose string stands behind the others
+-- a token more, whose string follows the others
 pub token-more : (ms : List Mark) (m : Mark) (strings string : List ℕ) → strings_length ms ≡ length strings → string_length m ≡ length string
     → tokens_in (ms ++ m ∷ []) (strings ++ string) ≡ tokens_in ms strings ++ token_in m string ∷ []
 token-more ms m strings string fits is =

@@ -1,4 +1,4 @@
--- What the next request of held bytes tells of them.
+-- What the next request of held bytes means for them.
 use Rattle.std.proofs.Common.{◌≡◌, ℕ, ◌+◌, ◌<◌, ◌≤◌, true, false, List, [], ◌∷◌, ◌++◌, length, take, drop, Option, Some}
 use Rattle.std.proofs.Common.{None, Result, Ok, Err, inl, inr, sym, ap, ◌∙◌, subst, refl, arith, append_assoc}
 use Rattle.std.proofs.Common.{length-append, length-drop}
@@ -66,7 +66,7 @@ next-shorter (Ok bytes) words new next =
     omega (arith, ap held_length is.left, length-drop is.found.end bytes, some, len, read.within)
 next-shorter (Err wrong) words new (is, left) = cc
 
--- a whole request stands at the front of what is held
+-- a complete request is at the front of what is held
 ready-of : (bytes : List ℕ) (outcome : Outcome Found) (new : Held) → request bytes ≡ outcome → ReadyOf bytes outcome (Ok true) new → HasNext new × (new ≡ Ok bytes)
 ready-of bytes (Ok (Some found)) new e (is, same) = (record { bytes = bytes; holds = same; whole = (found, e) }, same)
 ready-of bytes (Ok None) new e (is, same) = cc
@@ -91,7 +91,7 @@ pub ready-next : (old held : Held) (words : List (List ℕ)) (new : Held) → Re
 ready-next old held words new ready are skips =
     subst (λ h. Next h (Ok (Some words)) new) (ready-front old held ready).1 (next-skipped held words new are skips)
 
--- what isn't whole is none yet
+-- a request that isn't complete is none yet
 whole-none : (bytes : List ℕ) (outcome : Outcome Found) (new : Held) → ReadyOf bytes outcome (Ok false) new → NextOf bytes outcome (Ok None) new
 whole-none bytes (Ok (Some found)) new (is, same) = cc
 whole-none bytes (Ok None) new (is, same) = (refl, same)
@@ -124,7 +124,7 @@ spells-more front [] first words none spells = (first, [], ap (λ f. f ++ first)
 spells-more front (other ∷ requests) first words (one, others, is, spelled, rest) spells =
     (one, others ++ first, ap (λ f. f ++ first) is ∙ append_assoc one others first, spelled, spells-more others requests first words rest spells)
 
--- the request that is read behind others
+-- the request that is read after others
 pub record Took (read front rest : List ℕ) (requests : List (List (List ℕ))) (found : Found) : Type 0 where
   pub first : List ℕ
   pub split : rest ≡ first ++ drop found.end rest
@@ -158,7 +158,7 @@ stays-of bytes more (Ok None) result new e (is, left) keeps some = absurd (some 
 stays-of bytes more (Err wrong) result new e (is, left) keeps some =
     subst (λ o. NextOf (bytes ++ more) o result (with_piece new more)) (sym keeps) (is, ap (λ h. with_piece h more) left)
 
--- what is answered but None is answered on every continuation
+-- any result but None is the result on every continuation
 pub next_stays : (old : Held) (result : Result (Option (List (List ℕ))) ReadFault) (new : Held) → Next old result new
     → (more : List ℕ) → (result ≡ Ok None → ⊥) → Next (with_piece old more) result (with_piece new more)
 next_stays (Ok bytes) result new next more some = stays-of bytes more (request bytes) result new refl next (request-keeps bytes more) some

@@ -14,7 +14,7 @@ use Rattle.xs_resp.specs.HeaderPart.{limit, is_natural, is_minus_one, number_in}
 use Rattle.xs_resp.specs.Grammar.{HasNoCr}
 use Rattle.xs_resp.proofs.Reading.{chosen}
 
--- digits, and what they are worth, in the words of std
+-- digits and their value, in the terms of std
 own : IsNumeralModel (λ ds. list_all is_digit ds ≡ true) (λ ds. fold with_digit 0 ds)
 own = numerals_by_fold _ (search rules) (λ n ds. fold with_digit n ds) (search rules)
 
@@ -102,7 +102,7 @@ number-count text n e small =
       | inr w ↦ inl (number-size text n w.1 small)
     ]
 
--- and the text from the number
+-- and the text, from the number
 pub number-decimal : (part : Part) (n : ℕ) → n ≤ limit part → number_in part (decimal n) ≡ Some n
 unfolding number_in
 number-decimal Size n h =

@@ -1,11 +1,11 @@
--- Facts on outcomes.
+-- Facts about outcomes.
 use Rattle.std.proofs.Common.{◌≡◌, ℕ, ◌+◌, List, [], ◌++◌, Some, None, Ok, Err, inl, inr, ◌⊎◌, refl, ap, ◌∙◌, arith}
 use Rattle.std.proofs.Common.{append_assoc}
 use Rattle.xs_resp.specs.declared.read_fault.ProtocolFault.{ProtocolFault}
 use Rattle.xs_resp.specs.Outcome.{Outcome, ◌>>=◌, Keeps}
 use Rattle.xs_resp.specs.Reading.{Found, behind_words}
 
--- what two steps read, each of them read
+-- if two steps read a value, each of them does
 pub bind-ok : {A B : Type 0} (first : Outcome A) (next : A → Outcome B) (y : B) → (first >>= next) ≡ Ok (Some y) → (x : A) × (first ≡ Ok (Some x)) × (next x ≡ Ok (Some y))
 bind-ok (Ok (Some x)) next y e = (x, refl, e)
 bind-ok (Ok None) next y e = absurd (cc)
@@ -23,7 +23,7 @@ Keeps-bind (Ok (Some x)) later next next' k h = rw k (h x refl)
 Keeps-bind (Ok None) later next next' k h = tt
 Keeps-bind (Err wrong) later next next' k h = ap (λ r. r >>= next') k
 
--- words behind words behind words
+-- words after words after words
 pub after-after : (words more : List (List ℕ)) (end length : ℕ) (rest : Outcome Found) → behind_words words end (behind_words more length rest) ≡ behind_words (words ++ more) (end + length) rest
 after-after words more end length (Ok (Some found)) =
     let texts : words ++ (more ++ found.words) ≡ (words ++ more) ++ found.words = rw append_assoc refl in
@@ -44,12 +44,12 @@ cases-outcome (Ok None) = inl refl
 cases-outcome (Ok (Some x)) = inr (inl (x, refl))
 cases-outcome (Err wrong) = inr (inr (wrong, refl))
 
--- behind no words
+-- after no words
 pub after-none : (rest : Outcome Found) → behind_words [] 0 rest ≡ rest
 after-none (Ok (Some found)) = ap (λ n. Ok (Some (record { words = found.words; end = n }))) (omega arith)
 after-none (Ok None) = refl
 after-none (Err wrong) = refl
 
--- what is decided behind words stays so
+-- what is decided after words stays decided
 pub after-keeps : (words : List (List ℕ)) (end : ℕ) (first later : Outcome Found) → Keeps first later → Keeps (behind_words words end first) (behind_words words end later)
 after-keeps words end first later k = Keeps-bind first later _ _ k (λ found e. refl)

@@ -1,4 +1,4 @@
--- How progress in a request is kept.
+-- How progress in a request is stored.
 use Rattle.std.proofs.Common.{◌≡◌, ℕ, ◌+◌, ◌-◌, ◌≤◌, suc, List, [], ◌∷◌, ◌++◌, length, take, drop, Some, None, Ok, Err}
 use Rattle.std.proofs.Common.{sym, ap, ◌∙◌, subst, arith, length-drop}
 use Rattle.std.proofs.lemmas.List.{take-append-le, drop-append-le, drop-drop, append-nil}
@@ -15,7 +15,7 @@ use Rattle.xs_resp.proofs.Outcomes.{after-after}
 use Rattle.xs_resp.proofs.Reading.{header_ends, word-ok}
 use Rattle.xs_resp.proofs.DecisionStays.{header-keeps, word-keeps}
 
--- without its header a request isn't whole
+-- without its header a request isn't complete
 pub request-none : (bytes : List ℕ) → header Count bytes ≡ Ok None → request bytes ≡ Ok None
 unfolding request
 request-none bytes e = ap (λ o. o >>= λ (h : Header). behind_words [] h.end (words h.number (drop h.end bytes))) e
@@ -39,7 +39,7 @@ text-later bytes more span order within =
     ap (take (span.end - span.start)) (drop-append-le span.start bytes more (omega arith))
     ∙ take-append-le (span.end - span.start) (drop span.start bytes) more (omega (arith, length-drop span.start bytes))
 
--- behind its header a request follows
+-- after its header a request follows
 pub follows-header : (bytes : List ℕ) (h : Header) → header Count bytes ≡ Ok (Some h) → IsProgressOf bytes (record { at = h.end; left = h.number })
 unfolding request
 follows-header bytes h e =
@@ -74,12 +74,12 @@ follows-word bytes progress left span f some w =
           ∙ after-after f.passed (text_in rest span ∷ []) at next (words left (drop (at + next) bytes ++ more));
     }
 
--- the request, by how far it is read
+-- the request, by the progress of its reading
 pub follows-here : (bytes : List ℕ) (progress : Progress) → (f : IsProgressOf bytes progress) → request bytes ≡ behind_words f.passed progress.at (words progress.left (drop progress.at bytes))
 follows-here bytes progress f =
     ap request (sym (append-nil bytes)) ∙ f.passes [] ∙ ap (λ b. behind_words f.passed progress.at (words progress.left b)) (append-nil (drop progress.at bytes))
 
--- a word that isn't whole
+-- a word that isn't complete
 pub follows-none : (bytes : List ℕ) (progress : Progress) (left : ℕ) → IsProgressOf bytes progress → progress.left ≡ suc left → bulk_string (drop progress.at bytes) ≡ Ok None → request bytes ≡ Ok None
 unfolding words
 follows-none bytes progress left f some w =

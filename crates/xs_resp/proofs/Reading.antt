@@ -1,4 +1,4 @@
--- Facts on how headers and words are read.
+-- Facts about how headers and words are read.
 use Rattle.std.proofs.Common.{◌≡◌, ℕ, ◌+◌, ◌<◌, ◌≤◌, Bool, true, false, cond, eqb, ltb, leb, List, [], ◌∷◌, length}
 use Rattle.std.proofs.Common.{take, drop, get_or, inl, inr, ◌⊎◌, Option, Some, None, Ok, refl, ap, ◌∙◌, arith}
 use Rattle.std.proofs.Common.{length-drop}
@@ -12,7 +12,7 @@ use Rattle.xs_resp.specs.declared.word.Span.{Span}
 use Rattle.xs_resp.specs.Reading.{span_before_crlf, bulk_string}
 use Rattle.xs_resp.proofs.Outcomes.{bind-ok}
 
--- a test that chose this outcome
+-- the branch of a test that gave this outcome
 pub chosen : {A : Type 0} (b : Bool) (x y z : A) → cond b x y ≡ z → ((b ≡ true) × (x ≡ z)) ⊎ ((b ≡ false) × (y ≡ z))
 chosen true x y z e = inl (refl, e)
 chosen false x y z e = inr (refl, e)
@@ -26,7 +26,7 @@ limited-ok part end (Some n) h e =
       | inr w ↦ (let same : n ≡ h.number = cc in (cc, omega (arith, ltb-false (limit part) n w.0), cc))
     ]
 
--- it stands behind its line, whose text is shorter than 30 bytes
+-- it ends after its line, whose text is shorter than 30 bytes
 pub record IsLine (part : Part) (line : List ℕ) (cr : ℕ) (h : Header) : Type 0 where
   pub short : cr < 30
   pub whole : cr + 2 ≤ length line
@@ -66,7 +66,7 @@ header_ends part (byte ∷ line) h e =
       | inr w ↦ absurd (cc)
     ]
 
--- a line end that was read stands there
+-- a line end that was read is there
 pub record IsClosed (start end : ℕ) (rest : List ℕ) (span : Span) : Type 0 where
   pub start_is : span.start ≡ start
   pub end_is : span.end ≡ end

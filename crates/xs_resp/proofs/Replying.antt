@@ -1,4 +1,4 @@
--- Facts on the texts of replies.
+-- Facts about the texts of replies.
 use Rattle.std.proofs.Common.{◌≡◌, ℕ, sym, ◌≤◌, List, [], ◌∷◌, ◌++◌, length, take, refl, ap, ◌∙◌, arith, length-append}
 use Rattle.std.proofs.Common.{append_assoc, Result, Ok, Err}
 use Rattle.std.specs.Bool.{⊤}
@@ -10,13 +10,13 @@ use Rattle.xs_resp.specs.declared.reply.Reply.{Reply}
 use Rattle.xs_resp.specs.ReplyItems.{tokens_of}
 use Rattle.xs_resp.specs.ReplyText.{text, token_text, Writes}
 
--- what kept a text kept its front
+-- a call that leaves a text leaves its front
 pub front-kept : (old part before new : List ℕ) → before ≡ old ++ part → take (length before) new ≡ before → take (length old) new ≡ old
 front-kept old part before new e kept =
     let shorter : length old ≤ length before = omega (arith, ap length e, length-append old part) in
     sym (take-take (length old) (length before) new shorter) ∙ ap (take (length old)) (kept ∙ e) ∙ take_at old part (length old) refl
 
--- a text that is appended behind another
+-- a text that is appended after another
 pub writes-behind : (result : Result ⊤ AllocError) (old middle new first second : List ℕ) → middle ≡ old ++ first → Writes result middle new second → Writes result old new (first ++ second)
 writes-behind (Ok done) old middle new first second is written = written ∙ ap (λ m. m ++ second) is ∙ append_assoc old first second
 writes-behind (Err refused) old middle new first second is kept = front-kept old first middle new is kept

@@ -79,7 +79,7 @@ some-missing : (rest : List ℕ) → LacksCrlf rest → 0 < length rest
 some-missing [] missing = absurd missing
 some-missing (byte ∷ rest) missing = omega arith
 
--- a fault that was met in a word stands in it
+-- a fault that was found in a word is in it
 pub word-fault : (bytes : List ℕ) (wrong : ProtocolFault) → bulk_string bytes ≡ Err wrong → WordFault bytes wrong
 unfolding bulk_string
 word-fault bytes wrong e =
@@ -106,7 +106,7 @@ word-fault bytes wrong e =
           ))
     ]
 
--- a line of a size, and what stands behind that many bytes
+-- a line of a size, and what follows that many bytes
 behind-line : (text rest : List ℕ) → length text ≤ limit Size → bulk_string (line 36 (length text) ++ (text ++ rest)) ≡ span_before_crlf (length (line 36 (length text))) (length (line 36 (length text)) + length text) rest
 unfolding bulk_string
 behind-line text rest h =
@@ -116,7 +116,7 @@ behind-line text rest h =
     ap (λ o. o >>= λ (k : Header). span_before_crlf k.end (k.end + k.number) (drop (k.end + k.number) (head ++ (text ++ rest)))) (header-line Size n (text ++ rest) h (omega arith))
     ∙ ap (span_before_crlf end (end + n)) (ap (drop (end + n)) (sym (append_assoc head text rest)) ∙ drop_at (head ++ text) rest (end + n) (length-append head text))
 
--- and the other way
+-- the converse
 pub word-err : (bytes : List ℕ) (wrong : ProtocolFault) → WordFault bytes wrong → bulk_string bytes ≡ Err wrong
 unfolding bulk_string
 word-err bytes wrong (inl f) = ap (λ o. o >>= λ (h : Header). span_before_crlf h.end (h.end + h.number) (drop (h.end + h.number) bytes)) (header-err Size bytes wrong f)

@@ -47,7 +47,7 @@ words-read (suc number) bytes found e =
       end = omega (arith, one.end, more.end, length-append (sent_word text) (sent_words others.words));
     })
 
--- a fault that was met behind some words
+-- a fault that was found after some words
 pub record WordsFault (number : ℕ) (bytes : List ℕ) (wrong : ProtocolFault) : Type 0 where
   pub passed : List (List ℕ)
   pub rest : List ℕ
@@ -99,7 +99,7 @@ words-sent (text ∷ texts) left rest sizes =
     ∙ after-after (text ∷ []) texts (span.end + 2) (length (sent_words texts)) (words left rest)
     ∙ ap (λ n. behind_words (text ∷ texts) n (words left rest)) (omega (arith, end-sent text, length-append (sent_word text) (sent_words texts)))
 
--- what is decided of words stays so
+-- what is decided on words stays decided
 pub words-keep : (number : ℕ) (bytes more : List ℕ) → Keeps (words number bytes) (words number (bytes ++ more))
 unfolding words
 words-keep zero bytes more = refl

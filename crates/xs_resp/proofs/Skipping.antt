@@ -1,4 +1,4 @@
--- How a whole request is passed over.
+-- How a complete request is skipped.
 use Rattle.std.proofs.Common.{◌≡◌, ℕ, ◌<◌, List, drop, Some, None, Ok, inl, inr, sym, ap, ◌∙◌, arith}
 use Rattle.std.proofs.lemmas.Bool.{cases_lt}
 use Rattle.xs_resp.specs.declared.progress.Progress.{Progress}
@@ -10,13 +10,13 @@ use Rattle.xs_resp.specs.Reading.{Found, request, IsWhole}
 use Rattle.xs_resp.specs.State.{held_in}
 use Rattle.xs_resp.proofs.Progressing.{follows-all}
 
--- bytes that are held, in whichever state
+-- the bytes that are held, in any state
 pub held-bytes : (state : State) (bytes other : List ℕ) → held_in state bytes ≡ Ok other → bytes ≡ other
 held-bytes Between bytes other e = cc
 held-bytes (Within progress) bytes other e = cc
 held-bytes (Failed wrong) bytes other e = absurd (cc)
 
--- a whole request is read to its end
+-- a complete request is read to its end
 pub reached-end : (bytes : List ℕ) (progress : Progress) → (f : IsProgressOf bytes progress) → (0 < progress.left → request bytes ≡ Ok None) → IsWhole (request bytes)
     → request bytes ≡ Ok (Some (record { words = f.passed; end = progress.at }))
 reached-end bytes progress f open' whole =
@@ -25,14 +25,14 @@ reached-end bytes progress f open' whole =
       | inr none ↦ follows-all bytes progress f (omega arith)
     ]
 
--- where it is read to, it ends
+-- the request ends at the end of its reading
 pub same-end : (bytes : List ℕ) (progress : Progress) (found : Found) → (f : IsProgressOf bytes progress) → (0 < progress.left → request bytes ≡ Ok None) → request bytes ≡ Ok (Some found) → progress.at ≡ found.end
 same-end bytes progress found f open' read =
     let reached = reached-end bytes progress f open' (found, read) in
     let same : record { words = f.passed; end = progress.at } ≡ found = cc in
     ap (λ (f : Found). f.end) same
 
--- where more bytes decide there is no request
+-- if more bytes decide, there is no request
 pub not-whole : (held : Held) (bytes : List ℕ) → HasNext held → held ≡ Ok bytes → request bytes ≡ Ok None → ⊥
 not-whole held bytes next is none =
     let same : next.bytes ≡ bytes = let holds = next.holds in cc in

@@ -11,7 +11,7 @@ pub tokens-length : (ms : List Mark) (strings : List ℕ) → length (tokens_in 
 tokens-length [] strings = refl
 tokens-length (m ∷ ms) strings = ap suc (tokens-length ms (drop (string_length m) strings))
 
--- the tokens behind some have the strings behind theirs
+-- the tokens after some have the strings after theirs
 pub tokens-drop : (i : ℕ) (ms : List Mark) (strings : List ℕ)
     → drop i (tokens_in ms strings) ≡ tokens_in (drop i ms) (drop (strings_length (take i ms)) strings)
 tokens-drop zero ms strings = refl
@@ -24,7 +24,7 @@ none : (string : List ℕ) → length string ≡ 0 → [] ≡ string
 none [] e = refl
 none (b ∷ bs) e = absurd (omega (arith, e))
 
--- a token's string is as long as its mark says
+-- the length of a token's string is that of its mark
 pub string-is : (m : Mark) (string : List ℕ) → length string ≡ string_length m → string_of (token_in m string) ≡ string
 string-is (Simple s) string e = none string e
 string-is (Error f) string e = none string e
@@ -68,7 +68,7 @@ lengths-more zero (m ∷ ms) d low = omega arith
 lengths-more (suc i) [] d low = absurd (omega (arith, low))
 lengths-more (suc i) (m ∷ ms) d low = omega (arith, lengths-more i ms d (omega (arith, low)))
 
--- the token of an index, and those behind it
+-- the token of an index, and those after it
 pub token-at : (i : ℕ) (ms : List Mark) (d : Mark) (strings : List ℕ) → i < length ms
     → drop i (tokens_in ms strings)
     ≡ token_in (get_or ms i d) (take (string_length (get_or ms i d)) (drop (strings_length (take i ms)) strings)) ∷ drop (suc i) (tokens_in ms strings)

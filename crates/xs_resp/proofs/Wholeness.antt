@@ -1,4 +1,4 @@
--- Whole items, put together and taken apart.
+-- Complete items, put together and taken apart.
 use Rattle.std.proofs.Common.{◌≡◌, ℕ, ◌+◌, zero, suc, List, [], ◌∷◌, ◌++◌, length, map, refl, sym, ap, ◌∙◌, subst}
 use Rattle.std.proofs.Common.{arith}
 use Rattle.std.proofs.lemmas.List.{length-map, append-nil}
@@ -12,7 +12,7 @@ use Rattle.xs_resp.specs.ReplyItems.{tokens_of, items_of}
 use Rattle.xs_resp.specs.Whole.{AreItems, own_items}
 use Rattle.xs_resp.specs.WholeReplies.{IsWholeReply, AreWhole}
 
--- as many items, told by another number
+-- the same number of items, if the numbers are equal
 so-many : (n m : ℕ) (ts : List token.Token) → n ≡ m → AreItems n ts → AreItems m ts
 so-many n m ts same whole = subst (λ k. AreItems k ts) same whole
 
@@ -26,7 +26,7 @@ items-append (suc n) m (t ∷ ts) us first second =
     so-many (own_items t + n + m) (own_items t + (n + m)) (ts ++ us) (omega arith) (items-append (own_items t + n) m ts us first second) in
     so-many (suc (n + m)) (suc n + m) (t ∷ (ts ++ us)) (omega arith) more
 
--- the tokens of a whole reply are one item
+-- the tokens of a complete reply are one item
 one-item : (r : Reply) → IsWholeReply r → AreItems 1 (tokens_of r)
 unfolding AreItems
 one-item (Simple s) whole = tt
@@ -74,7 +74,7 @@ record Found (n : ℕ) (ts : List token.Token) : Type 0 where
   counted : n ≡ length replies
   tokens : ts ≡ flat_map tokens_of replies
 
--- the first of them, where those behind it are found
+-- the first of them, if those after it are found
 module _ (n : ℕ) (further : (back : List token.Token) → AreItems n back → Found n back) where
   behind : (r : Reply) (back : List token.Token) → IsWholeReply r → AreItems n back → Found (suc n) (tokens_of r ++ back)
   behind r back one rest =
@@ -115,7 +115,7 @@ items-found items whole =
     let it = found items.count items.tokens whole in
     (it.replies, it.whole, λ i. record { count = it.counted i; tokens = it.tokens i })
 
--- the tokens of whole replies, as calls append them
+-- the tokens of complete replies, as calls append them
 pub filled : (rs : List Reply) (count : ℕ) (before tokens : List token.Token) → AreWhole rs → count ≡ length rs → before ≡ []
     → tokens ≡ before ++ flat_map tokens_of rs → AreItems count tokens
 filled rs count before tokens whole counted empty appended =

@@ -1,5 +1,5 @@
 -- The texts of replies, by examples of the RESP protocol specification (version 2), each as a real Redis 7.0 sends it.
--- Behind their first word the texts of errors are this server's own.
+-- After their first word the texts of errors are this server's own.
 use Rattle.std.specs.Prelude.{◌≡◌, ℕ, ◌==◌, List, [], ◌∷◌, codes, if◌then◌else◌}
 use Rattle.std.specs.List.{flat_map}
 use Rattle.xs_resp.specs.declared.fault.Fault.TheVariants.{UnknownCommand, Arity, Syntax, BadId, NotInteger, ZeroId}
@@ -13,7 +13,7 @@ use Rattle.xs_resp.specs.ReplyText.{text}
 use Rattle.xs_resp.specs.Token as token
 use Rattle.xs_resp.specs.Whole.{AreItems}
 
--- the bytes of a text in which `^` stands for the end of a line, CR LF
+-- the bytes of a text in which `^` is the end of a line, CR LF
 abbrev pub wire : List ℕ → List ℕ
 wire text = flat_map (λ byte. if byte == 94 then 13 ∷ 10 ∷ [] else byte ∷ []) text
 
@@ -67,7 +67,7 @@ pub record FaultTexts : Type 0 where
   pub memory : text (Error Memory) ≡ wire (codes "-OOM out of memory^")
   pub protocol : text (Error Protocol) ≡ wire (codes "-ERR Protocol error^")
 
--- Which tokens are whole items.
+-- Which tokens are complete items.
 pub record Wholeness : Type 0 where
   pub none : AreItems 0 []
   pub an_array : AreItems 1 (token.Array 2 ∷ token.Int 1 ∷ token.Int 2 ∷ [])

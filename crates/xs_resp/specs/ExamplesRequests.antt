@@ -1,5 +1,5 @@
--- Requests out of bytes, by examples of the RESP protocol specification (version 2): an array of bulk strings. Which
--- fault is told, and that no number has a sign or leading zeros, are this server's own.
+-- Requests from bytes, by examples of the RESP protocol specification (version 2): an array of bulk strings. Which
+-- fault is reported, and that no number has a sign or leading zeros, are this server's own.
 use Rattle.std.specs.Prelude.{◌≡◌, ℕ, ◌++◌, true, false, List, [], ◌∷◌, codes, Some, None, Ok, Err}
 use Rattle.xs_resp.specs.declared.read_fault.ProtocolFault.TheVariants.{Length, Shape, Limit}
 use Rattle.xs_resp.specs.declared.read_fault.ReadFault.TheVariants as fault
@@ -8,7 +8,7 @@ use Rattle.xs_resp.specs.Reading.{Found, request}
 use Rattle.xs_resp.specs.HeldBytes.{with_piece, front_of, held_length, holds_bytes, HasNext, Next, Ready, Skips}
 use Rattle.xs_resp.specs.Examples.{wire}
 
--- these words, in so many bytes
+-- these words, in this many bytes
 abbrev pub found : List (List ℕ) → ℕ → Outcome Found
 found words end = Ok (Some (record { words = words; end = end }))
 

@@ -39,7 +39,7 @@ pub record Stays : Type 0 where
   pub a_fault : Keeps {A = ℕ} (Err Shape) (Err Shape)
   pub no_other_fault : Keeps {A = ℕ} (Err Shape) (Err Length) → ⊥
 
--- a fault of each kind, and what is none
+-- a fault of each kind, and bytes without one
 pub record FaultKinds : Type 0 where
   pub no_cr : HasNoCr (codes "12")
   pub a_cr : HasNoCr (49 ∷ 13 ∷ []) → ⊥

@@ -5,7 +5,7 @@ use Rattle.xs_resp.specs.declared.fault.Fault.TheVariants.{UnknownCommand, Arity
 use Rattle.xs_resp.specs.declared.fault.Fault.TheVariants.{SmallId, Exhausted, NoKey, MissingKey, Busy, NoGroup}
 use Rattle.xs_resp.specs.declared.fault.Fault.TheVariants.{Unsupported, Memory, Protocol}
 
--- what an error reply says, without its marker and its line end
+-- the text of an error reply, without its marker and its line end
 unfoldable pub fault_text : Fault → List ℕ
 fault_text UnknownCommand = codes "ERR unknown command"
 fault_text Arity = codes "ERR wrong number of arguments"

@@ -1,5 +1,5 @@
--- The grammar of requests (RESP protocol specification, version 2): which bytes are a request of
--- which words, and which fault stands in some bytes. It says nothing of how bytes are read.
+-- The grammar of requests (RESP protocol specification, version 2): which bytes are a request of which words, and which
+-- fault is in some bytes. How bytes are read is defined elsewhere.
 use Rattle.std.specs.Prelude.{◌≡◌, ◌≢◌, ◌⊎◌, ℕ, ◌<◌, ◌≤◌, List, [], ◌∷◌, ◌++◌, length, codes, Some, None}
 use Rattle.std.specs.List.{flat_map, AllByRecursion}
 use Rattle.xs_resp.specs.declared.header.Part.{Part}
@@ -67,20 +67,20 @@ pub record BeginsLine (part : Part) (bytes text : List ℕ) (byte : ℕ) : Type 
   pub short : length text < 30
   pub no_cr : HasNoCr text
 
--- behind the first CR stands another byte than LF
+-- another byte than LF follows the first CR
 pub record LacksLf (part : Part) (bytes : List ℕ) : Type 0 where
   pub text : List ℕ
   pub byte : ℕ
   pub begins : BeginsLine part bytes text byte
   pub other : byte ≢ 10
 
--- the line stands for no number
+-- the text of the line is no number
 pub record LacksNumber (part : Part) (bytes : List ℕ) : Type 0 where
   pub text : List ℕ
   pub begins : BeginsLine part bytes text 10
   pub none : number_in part text ≡ None
 
--- the line stands for a number above the limit
+-- the number of the line is above the limit
 pub record IsTooGreat (part : Part) (bytes : List ℕ) : Type 0 where
   pub text : List ℕ
   pub number : ℕ
@@ -94,7 +94,7 @@ HeaderFault part bytes Length = LacksNumber part bytes
 HeaderFault part bytes Shape = LacksMarker part bytes ⊎ LacksLf part bytes
 HeaderFault part bytes Limit = IsTooLong part bytes ⊎ IsTooGreat part bytes
 
--- what doesn't begin as CR LF
+-- bytes that don't begin as CR LF
 abbrev pub LacksCrlf : List ℕ → Type 0
 LacksCrlf [] = ⊥
 LacksCrlf (cr ∷ []) = cr ≢ 13
@@ -112,7 +112,7 @@ pub record LacksLineEnd (bytes : List ℕ) : Type 0 where
 abbrev pub WordFault : List ℕ → ProtocolFault → Type 0
 WordFault bytes wrong = HeaderFault Size bytes wrong ⊎ ((wrong ≡ Shape) × LacksLineEnd bytes)
 
--- the bytes begin as a request, and behind some of its words a fault stands
+-- the bytes begin as a request, and a fault follows some of its words
 pub record FaultBehind (bytes : List ℕ) (wrong : ProtocolFault) : Type 0 where
   pub number : ℕ
   pub words : List (List ℕ)
@@ -123,11 +123,11 @@ pub record FaultBehind (bytes : List ℕ) (wrong : ProtocolFault) : Type 0 where
   pub sizes : AreSizes words
   pub fault : WordFault rest wrong
 
--- the fault that stands in some bytes
+-- the fault in some bytes
 abbrev pub FaultIn : List ℕ → ProtocolFault → Type 0
 FaultIn bytes wrong = HeaderFault Count bytes wrong ⊎ FaultBehind bytes wrong
 
--- more bytes decide: no front of these is a request, and no fault stands in them
+-- more bytes decide: no front of these is a request, and they have no fault
 abbrev pub IsOpen : List ℕ → Type 0
 IsOpen bytes =
     ((front rest : List ℕ) (words : List (List ℕ)) → bytes ≡ front ++ rest → Spells front words → ⊥)

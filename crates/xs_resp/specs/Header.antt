@@ -11,7 +11,7 @@ use Rattle.xs_resp.specs.HeaderPart.{marker, limit, number_in}
 abbrev pub is_not_cr : ℕ → Bool
 is_not_cr byte = not (byte == 13)
 
--- how many bytes stand before the first CR
+-- the number of bytes before the first CR
 abbrev pub text_len : List ℕ → ℕ
 text_len line = prefix_len is_not_cr line
 
@@ -21,7 +21,7 @@ within_limit part end None = Err Length
 within_limit part end (Some n) =
     if nat_lt (limit part) n then Err Limit else Ok (Some (record { number = n; end = end }))
 
--- a header whose marker is read, and whose first CR stands at this index
+-- a header whose marker is read, and whose first CR is at this index
 unfoldable pub line_at : Part → List ℕ → ℕ → Outcome Header
 line_at part line cr =
     if nat_le 30 cr then Err Limit

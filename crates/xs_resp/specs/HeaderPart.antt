@@ -28,6 +28,6 @@ abbrev pub is_null : Part → List ℕ → Bool
 is_null Count text = is_minus_one text
 is_null Size text = false
 
--- the number that a header's text stands for, if it is one
+-- the number that a header's text spells, if it is one
 unfoldable pub number_in : Part → List ℕ → Option ℕ
 number_in part text = if is_null part text then Some 0 else (if is_natural text then Some (value_of text) else None)

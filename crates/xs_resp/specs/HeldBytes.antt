@@ -18,7 +18,7 @@ abbrev pub with_piece : Held → List ℕ → Held
 with_piece (Ok bytes) piece = Ok (bytes ++ piece)
 with_piece (Err wrong) piece = Err wrong
 
--- how many bytes are held
+-- the number of held bytes
 abbrev pub held_length : Held → ℕ
 held_length (Ok bytes) = length bytes
 held_length (Err wrong) = 0
@@ -28,20 +28,20 @@ abbrev pub holds_bytes : Held → Bool
 holds_bytes (Ok bytes) = not (length bytes == 0)
 holds_bytes (Err wrong) = false
 
--- the next request of bytes: its words, and the bytes behind it; or out of memory, unchanged;
--- nothing yet, unchanged; or a fault, which is held from then on
+-- the next request of bytes: its words, and the bytes after it; or out of memory, unchanged; or nothing yet, unchanged;
+-- or a fault, which is held from then on
 abbrev pub NextOf : List ℕ → Outcome Found → Result (Option (List (List ℕ))) ReadFault → Held → Type 0
 NextOf bytes (Ok (Some found)) result new =
     ((result ≡ Ok (Some found.words)) × (new ≡ Ok (drop found.end bytes))) ⊎ ((result ≡ Err Memory) × (new ≡ Ok bytes))
 NextOf bytes (Ok None) result new = (result ≡ Ok None) × (new ≡ Ok bytes)
 NextOf bytes (Err wrong) result new = (result ≡ Err (read_fault_of wrong)) × (new ≡ Err wrong)
 
--- the next request of what is held: a failed reader answers its fault for good
+-- the next request of what is held: a failed reader returns its fault for good
 abbrev pub Next : Held → Result (Option (List (List ℕ))) ReadFault → Held → Type 0
 Next (Ok bytes) result new = NextOf bytes (request bytes) result new
 Next (Err wrong) result new = (result ≡ Err (read_fault_of wrong)) × (new ≡ Err wrong)
 
--- a whole request stands at the front of what is held
+-- a complete request is at the front of what is held
 pub record HasNext (held : Held) : Type 0 where
   pub bytes : List ℕ
   pub holds : held ≡ Ok bytes
@@ -60,13 +60,13 @@ pub record Skips (old new : Held) : Type 0 where
   pub read : request bytes ≡ Ok (Some found)
   pub left : new ≡ Ok (drop found.end bytes)
 
--- whether a whole request stands at the front of bytes, which stay; or a fault, which is held from then on
+-- whether a complete request is at the front of bytes, which stay; or a fault, which is held from then on
 abbrev pub ReadyOf : List ℕ → Outcome Found → Result Bool ReadFault → Held → Type 0
 ReadyOf bytes (Ok (Some found)) result new = (result ≡ Ok true) × (new ≡ Ok bytes)
 ReadyOf bytes (Ok None) result new = (result ≡ Ok false) × (new ≡ Ok bytes)
 ReadyOf bytes (Err wrong) result new = (result ≡ Err (read_fault_of wrong)) × (new ≡ Err wrong)
 
--- whether a whole request stands at the front of what is held
+-- whether a complete request is at the front of what is held
 abbrev pub Ready : Held → Result Bool ReadFault → Held → Type 0
 Ready (Ok bytes) result new = ReadyOf bytes (request bytes) result new
 Ready (Err wrong) result new = (result ≡ Err (read_fault_of wrong)) × (new ≡ Err wrong)

@@ -1,11 +1,11 @@
--- What is left to be written of a reply, piece by piece.
+-- What is left to write of a reply, in pieces.
 use Rattle.std.specs.Prelude.{ℕ, ◌<◌, Bool, true, false, List, [], ◌∷◌, ◌++◌, length}
 use Rattle.std.specs.List.{flat_map}
 use Rattle.xs_resp.specs.Token.{Token, ErrorText, Bulk}
 use Rattle.xs_resp.specs.Line.{crlf}
 use Rattle.xs_resp.specs.ReplyText.{token_text}
 
--- the bytes that are left to be written: those of the next piece, and those behind it
+-- the bytes that are left to write: those of the next piece, and those after it
 pub record Left : Type 0 where
   pub piece : List ℕ
   pub behind : List ℕ
@@ -20,17 +20,17 @@ string_of (ErrorText bytes) = bytes
 string_of (Bulk bytes) = bytes
 string_of other = []
 
--- the strings of tokens, one behind the other
+-- the strings of tokens, one after the other
 abbrev pub strings_of : List Token → List ℕ
 strings_of tokens = flat_map string_of tokens
 
--- what is left of these tokens. Of a first token whose string is lent its header is written
+-- what is left of these tokens; if the string of the first one is lent, its header is written
 abbrev pub left_of : Bool → List Token → List ℕ
 left_of false tokens = flat_map token_text tokens
 left_of true [] = []
 left_of true (t ∷ ts) = string_of t ++ crlf ++ flat_map token_text ts
 
--- the piece is what was gathered or, if that is written, the lent string
+-- the piece is what was gathered or, once that is written, the lent string
 abbrev pub pieces : List ℕ → Bool → List Token → Left
 pieces [] true [] = record { piece = []; behind = [] }
 pieces [] true (t ∷ ts) = record { piece = string_of t; behind = crlf ++ flat_map token_text ts }

@@ -1,10 +1,10 @@
--- Tokens as they lie in memory: their strings stand in one buffer, one behind the other.
+-- Tokens as they are stored: their strings are in one buffer, one after the other.
 use Rattle.std.specs.Prelude.{ℕ, ◌+◌, List, [], ◌∷◌, take, drop}
 use Rattle.xs_resp.specs.declared.mark.Mark.{Mark}
 use Rattle.xs_resp.specs.declared.mark.Mark.TheVariants.{Simple, Error, ErrorText, Int, Bulk, NullBulk, Array, NullArray}
 use Rattle.xs_resp.specs.Token as token
 
--- how many bytes the string of a token has
+-- the number of bytes of a token's string
 abbrev pub string_length : Mark → ℕ
 string_length (ErrorText length) = length
 string_length (Bulk length) = length
@@ -21,12 +21,12 @@ token_in NullBulk string = token.NullBulk
 token_in (Array n) string = token.Array n
 token_in NullArray string = token.NullArray
 
--- how many bytes the strings of tokens have
+-- the number of bytes of the strings of tokens
 abbrev pub strings_length : List Mark → ℕ
 strings_length [] = 0
 strings_length (m ∷ ms) = string_length m + strings_length ms
 
--- the tokens whose strings stand in these bytes
+-- the tokens whose strings are in these bytes
 abbrev pub tokens_in : List Mark → List ℕ → List token.Token
 tokens_in [] strings = []
 tokens_in (m ∷ ms) strings =

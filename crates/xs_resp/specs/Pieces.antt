@@ -4,24 +4,24 @@ use Rattle.xs_resp.specs.Outcome.{Outcome}
 use Rattle.xs_resp.specs.Reading.{Found, request}
 use Rattle.xs_resp.specs.HeldBytes.{Held, with_piece}
 
--- no request is whole: the bytes are held, or their fault
+-- no request is complete: the bytes are held, or their fault
 abbrev pub Rests : Outcome Found → List ℕ → Held → Type 0
 Rests (Ok (Some found)) bytes held = ⊥
 Rests (Ok None) bytes held = held ≡ Ok bytes
 Rests (Err wrong) bytes held = held ≡ Err wrong
 
--- these requests are taken from the bytes, one after another, until none is whole
+-- these requests are taken from the bytes, one after another, until none is complete
 abbrev pub Reads : List ℕ → List (List (List ℕ)) → Held → Type 0
 Reads bytes [] held = Rests (request bytes) bytes held
 Reads bytes (words ∷ others) held =
     (end : ℕ) × ((request bytes ≡ Ok (Some (record { words = words; end = end }))) × Reads (drop end bytes) others held)
 
--- the same of what a reader holds: of a failed one nothing is taken
+-- the same of what a reader holds: none is taken from a failed one
 abbrev pub ReadsHeld : Held → List (List (List ℕ)) → Held → Type 0
 ReadsHeld (Ok bytes) requests held = Reads bytes requests held
 ReadsHeld (Err wrong) requests held = (requests ≡ []) × (held ≡ Err wrong)
 
--- the requests that are taken behind the first piece, and those behind the others
+-- the requests that are taken after the first piece, and those after the others
 pub record Turn (old : Held) (requests : List (List (List ℕ))) (rest : List (List (List ℕ)) → Held → Type 0) :
     Type 0 where
   pub first : List (List (List ℕ))

@@ -1,4 +1,4 @@
--- The fault that a reader answers.
+-- The fault that a reader returns.
 use Rattle.xs_resp.specs.declared.read_fault.ProtocolFault.{ProtocolFault}
 use Rattle.xs_resp.specs.declared.read_fault.ProtocolFault.TheVariants as wrong
 use Rattle.xs_resp.specs.declared.read_fault.ReadFault.{ReadFault}

@@ -7,7 +7,7 @@ use Rattle.xs_resp.specs.declared.read_fault.ProtocolFault.TheVariants.{Shape}
 use Rattle.xs_resp.specs.Outcome.{Outcome, ◌>>=◌}
 use Rattle.xs_resp.specs.Header.{header}
 
--- words, and the index behind them
+-- words, and the index after them
 pub record Found : Type 0 where
   pub words : List (List ℕ)
   pub end : ℕ
@@ -27,7 +27,7 @@ bulk_string bytes = header Size bytes >>= λ h. span_before_crlf h.end (h.end + 
 abbrev pub text_in : List ℕ → Span → List ℕ
 text_in bytes span = take (span.end - span.start) (drop span.start bytes)
 
--- what is read behind these words, which end at this index
+-- what is read after these words, which end at this index
 abbrev pub behind_words : List (List ℕ) → ℕ → Outcome Found → Outcome Found
 behind_words words end rest =
     rest >>= λ found. Ok (Some (record { words = words ++ found.words; end = end + found.end }))
@@ -43,11 +43,11 @@ words (suc n) bytes =
 unfoldable pub request : List ℕ → Outcome Found
 request bytes = header Count bytes >>= λ h. behind_words [] h.end (words h.number (drop h.end bytes))
 
--- a whole request was read, or all of its words
+-- a complete request was read, or all of its words
 abbrev pub IsWhole : Outcome Found → Type 0
 IsWhole outcome = (found : Found) × (outcome ≡ Ok (Some found))
 
--- the words that were read, if any were
+-- the words that were read; none if there were none
 abbrev pub words_in : Outcome Found → List (List ℕ)
 words_in (Ok (Some found)) = found.words
 words_in (Ok None) = []

@@ -6,7 +6,7 @@ use Rattle.xs_resp.specs.declared.reply.Reply.TheVariants.{Simple, Error, ErrorT
 use Rattle.xs_resp.specs.Token as token
 use Rattle.xs_resp.specs.Items.{Items}
 
--- the tokens of a reply: of an array its header, and then the tokens of its items
+-- the tokens of a reply; of an array its header, and then the tokens of its items
 abbrev pub tokens_of : Reply → List token.Token
 tokens_of (Simple s) = token.Simple s ∷ []
 tokens_of (Error f) = token.Error f ∷ []

@@ -10,7 +10,7 @@ use Rattle.xs_resp.specs.Line.{crlf, line}
 use Rattle.xs_resp.specs.Token.{Token, Simple, Error, ErrorText, Int, Bulk, NullBulk, Array, NullArray}
 use Rattle.xs_resp.specs.ReplyItems.{tokens_of}
 
--- what a simple string says
+-- the text of a simple string
 abbrev pub simple_text : simple.Simple → List ℕ
 simple_text Okay = codes "OK"
 simple_text Pong = codes "PONG"
@@ -34,7 +34,7 @@ token_text NullArray = codes "*-1" ++ crlf
 unfoldable pub text : Reply → List ℕ
 text reply = flat_map token_text (tokens_of reply)
 
--- a call that appends this text, or is refused and leaves what stood before it
+-- a call that appends this text, or fails and leaves what was there before
 abbrev pub Writes : Result ⊤ AllocError → List ℕ → List ℕ → List ℕ → Type 0
 Writes (Ok _) old new written = new ≡ old ++ written
 Writes (Err _) old new written = take (length old) new ≡ old

@@ -5,7 +5,7 @@ use Rattle.xs_resp.specs.declared.requests.State.TheVariants.{Between, Within, F
 use Rattle.xs_resp.specs.HeldBytes.{Held}
 use Rattle.xs_resp.specs.Progress.{IsProgressOf}
 
--- what is held, of these bytes in this state
+-- what is held, given these bytes and this state
 abbrev pub held_in : State → List ℕ → Held
 held_in Between bytes = Ok bytes
 held_in (Within progress) bytes = Ok bytes

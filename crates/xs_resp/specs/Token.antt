@@ -3,7 +3,7 @@ use Rattle.std.specs.Prelude.{ℕ, List}
 use Rattle.xs_resp.specs.declared.fault.Fault.{Fault}
 use Rattle.xs_resp.specs.declared.reply.Simple as simple
 
--- a whole reply that is no array, or the header of an array of so many items, which follow it
+-- a complete reply that isn't an array, or the header of an array with this many items, which follow it
 pub data Token : Type 0 where
   Simple : simple.Simple → Token
   Error : Fault → Token

@@ -7,7 +7,7 @@ use Rattle.xs_resp.specs.Token.{Token}
 use Rattle.xs_resp.specs.ReplyText.{token_text}
 use Rattle.xs_resp.specs.LeftToWrite.{string_of}
 
--- behind its header a token has its string and the end of a line
+-- after its header a token has its string and the end of a line
 abbrev pub Appends : Fit → List ℕ → List ℕ → Token → Type 0
 Appends Whole old new token = new ≡ old ++ token_text token
 Appends Header old new token =

@@ -1,13 +1,13 @@
--- Which tokens are whole items.
+-- Which tokens are complete items.
 use Rattle.std.specs.Prelude.{ℕ, ◌+◌, zero, suc, List, [], ◌∷◌}
 use Rattle.xs_resp.specs.Token.{Token, Array}
 
--- how many items follow a token as its own
+-- how many of the items that follow a token are its own
 abbrev pub own_items : Token → ℕ
 own_items (Array n) = n
 own_items other = 0
 
--- these tokens are this many items, each of them whole
+-- these tokens are this many items, each of them complete
 unfoldable pub AreItems : ℕ → List Token → Type 0
 AreItems zero [] = Unit {0}
 AreItems zero (t ∷ ts) = ⊥

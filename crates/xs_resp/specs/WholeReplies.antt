@@ -1,4 +1,4 @@
--- Which replies are whole: no array says that it has more or fewer items than it has.
+-- Which replies are complete: the header of no array gives more or fewer items than the array has.
 use Rattle.std.specs.Prelude.{List, [], ◌∷◌}
 use Rattle.xs_resp.specs.declared.reply.Reply.{Reply}
 use Rattle.xs_resp.specs.declared.reply.Reply.TheVariants.{Array, Opening}

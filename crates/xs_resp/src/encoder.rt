@@ -1,4 +1,4 @@
-//! Replies as bytes, piece by piece: what is written takes no memory.
+//! Replies as bytes, in pieces: writing takes no memory.
 ghost use Rattle.std.specs.Prelude.{◌≡◌, ◌≢◌, ◌+◌, ◌<◌, ◌≤◌, [], ◌++◌, true, false, length, take, drop, vec_capacity, IfOk};
 ghost use Rattle.std.specs.List.{flat_map};
 ghost use Rattle.xs_resp.specs.ReplyText.{text, token_text};
@@ -17,17 +17,17 @@ use std::marker::Model;
 /// How many bytes of a piece are gathered.
 const GATHERED: usize = 65_536;
 
-/// A string of more bytes is lent, and not copied.
+/// A string of more bytes is lent and not copied.
 const COPIED: usize = 32_768;
 
 /// How far a reply is written.
 #[derive(Clone, Copy)]
 pub(crate) struct Position {
-    /// How many of its tokens are written.
+    /// The number of tokens that are written.
     taken: usize,
-    /// How many bytes their strings have.
+    /// The number of bytes of their strings.
     at: usize,
-    /// Is the next token's string lent? Its header is gathered then.
+    /// Whether the next token's string is lent. Its header is gathered then.
     is_lent: bool,
 }
 
@@ -39,15 +39,15 @@ impl Position {
     }
 }
 
-/// The end of a reply that is one token.
+/// The end of a reply of one token.
 const END: Position = Position {
     taken: 1,
     at: 0,
     is_lent: false,
 };
 
-/// Replies that are being written. Their bytes are given piece by piece: short tokens are gathered in a buffer, of several
-/// replies if there is room, and a long string is lent from where it lies.
+/// Replies that are being written. Their bytes are given in pieces: short tokens are gathered in a buffer, of several
+/// replies if there is room, and a long string is lent from its place.
 #[derive(Drop)]
 pub struct Encoder {
     gathered: Vec<u8>,
@@ -70,7 +70,7 @@ impl Model for Encoder {
 }
 
 impl Encoder {
-    /// Nothing is left. This is the only call that takes memory.
+    /// An encoder with nothing to write. This is the only call that takes memory.
     pub fn new(alloc: Global) -> Result<Self, AllocError>
         ensures { IfOk result (λ encoder. bytes_left encoder ≡ []) }
     {
@@ -89,7 +89,7 @@ impl Encoder {
         !self.position.is_lent && self.position.taken >= Sequence::new(&self.reply).len()
     }
 
-    /// The text of this reply is left behind what is gathered.
+    /// Begins to write this reply, after what is gathered.
     pub fn begin(&mut self, reply: Reply)
         requires { self.old.behind ≡ [] }
         ensures { bytes_left self.new ≡ bytes_left self.old ++ text reply }
@@ -111,7 +111,7 @@ impl Encoder {
         self.gathered.as_slice()
     }
 
-    /// The piece is written. The reply is let go once all of it is.
+    /// The piece is written. The reply is dropped once all of it is written.
     pub fn advance(&mut self)
         ensures { bytes_left self.new ≡ self.old.behind }
     {
@@ -131,7 +131,7 @@ impl Encoder {
         }
     }
 
-    /// Nothing is left.
+    /// Drops all that is left.
     pub fn clear(&mut self)
         ensures { bytes_left self.new ≡ [] }
     {
@@ -141,11 +141,11 @@ impl Encoder {
     }
 }
 
-/// How much of a token there was room for.
+/// How much of a token fitted.
 enum Fit {
-    /// The whole token.
+    /// The complete token.
     Whole,
-    /// Its header: its string is lent.
+    /// Its header; its string is lent.
     Header,
     /// Nothing.
     Nothing,

@@ -1,4 +1,4 @@
-//! Examples of what the definitions say, with values from outside.
+//! Examples of the definitions, with expected values from outside.
 #![tactic(auto, unfolding(crate::proofs::Computing::example_functions))]
 
 ghost use Rattle.xs_resp.specs.Examples.{Replies, FaultTexts, Wholeness};
@@ -15,7 +15,7 @@ pub fn fault_texts()
     ensures { FaultTexts }
 {}
 
-/// Which tokens are whole items.
+/// Which tokens are complete items.
 pub fn wholeness()
     ensures { Wholeness }
 {}
@@ -30,12 +30,12 @@ pub fn undecided()
     ensures { Undecided }
 {}
 
-/// Bytes that are no request.
+/// Bytes that aren't a request.
 pub fn faults()
     ensures { Faults }
 {}
 
-/// What a reader holds and gives.
+/// What a reader holds and returns.
 pub fn reader()
     ensures { Reader }
 {}
@@ -50,7 +50,7 @@ pub fn spelled()
     ensures { Spelled }
 {}
 
-/// Faults that stand in bytes.
+/// Faults in bytes.
 pub fn fault_kinds()
     ensures { FaultKinds }
 {}
@@ -60,7 +60,7 @@ pub fn pieces()
     ensures { Pieces }
 {}
 
-/// What is decided stays so.
+/// What is decided stays decided.
 pub fn stays()
     ensures { Stays }
 {}

@@ -1,21 +1,21 @@
-//! The errors that a reply may report.
+//! The errors that a reply can report.
 ghost use Rattle.std.specs.Prelude.{◌≡◌};
 
 use thiserror::Error;
 
-/// Why a command was refused. Behind their first word the texts are this project's own.
+/// Why a command was refused. After their first word the texts are this project's own.
 #[derive(Clone, Copy, Debug, PartialEq, Eq, Error)]
 #[error("{}", self.text())]
 pub enum Fault {
-    /// No command has this name.
+    /// There is no command of this name.
     UnknownCommand,
     /// The command takes another number of words.
     Arity,
     /// An option is missing, unknown or in the wrong place.
     Syntax,
-    /// A word that stands for an id is none.
+    /// A word in the place of an id isn't one.
     BadId,
-    /// A word that stands for an integer is none, or out of range.
+    /// A word in the place of an integer isn't one, or is out of range.
     NotInteger,
     /// XADD with the id 0-0.
     ZeroId,
@@ -29,11 +29,11 @@ pub enum Fault {
     MissingKey,
     /// XGROUP CREATE with a name that is taken.
     Busy,
-    /// No such key, or no such group.
+    /// There is no such key or no such group.
     NoGroup,
-    /// A form of the command that this server leaves out.
+    /// A form of the command that this server doesn't support.
     Unsupported,
-    /// Memory ran out; nothing was changed.
+    /// Out of memory; nothing was changed.
     Memory,
     /// The bytes aren't a request.
     Protocol,

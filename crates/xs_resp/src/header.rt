@@ -22,11 +22,11 @@ pub enum Part {
 pub struct Header {
     /// Its number.
     pub number: usize,
-    /// The index behind its LF.
+    /// The index after its LF.
     pub end: usize,
 }
 
-/// The greatest length of a header's text, with which its line has 32 bytes.
+/// The greatest length of a header's text; its line then has 32 bytes.
 const TEXT_LIMIT: usize = 29;
 
 fn marker(part: Part) -> u8
@@ -47,7 +47,7 @@ fn limit(part: Part) -> u64
     }
 }
 
-/// Reads the header at the front. None where more bytes decide.
+/// Reads the header at the front. None if more bytes decide.
 #[tactic(auto, unfolding(crate::specs::Header::header))]
 pub fn read_header(part: Part, bytes: &[u8]) -> Result<Option<Header>, ProtocolFault>
     ensures { result ≡ header part bytes.now }
@@ -61,7 +61,7 @@ pub fn read_header(part: Part, bytes: &[u8]) -> Result<Option<Header>, ProtocolF
     read_line(part, line)
 }
 
-/// Reads a header behind its marker.
+/// Reads a header after its marker.
 #[tactic(auto, unfolding(crate::specs::Header::line_at))]
 fn read_line(part: Part, line: &[u8]) -> Result<Option<Header>, ProtocolFault>
     ensures { result ≡ line_at part line.now (text_len line.now) }
@@ -79,7 +79,7 @@ fn read_line(part: Part, line: &[u8]) -> Result<Option<Header>, ProtocolFault>
     limited(part, cr + 3, number_in(part, &line[..cr]))
 }
 
-/// How many bytes stand before the first CR, or more than a header may have.
+/// The number of bytes before the first CR; at most 30, which is too many for a header.
 fn find_cr(line: &[u8]) -> usize
     ensures { result ≡ min 30 (text_len line.now) }
 {
@@ -93,7 +93,7 @@ fn find_cr(line: &[u8]) -> usize
     cr
 }
 
-/// A header with this number, if it is one and within the limit. The number is saturated.
+/// A header with this number, if there is one and it is within the limit. The number is saturated.
 fn limited(part: Part, end: usize, number: Option<u64>) -> Result<Option<Header>, ProtocolFault>
     ensures { result ≡ within_limit part end number }
 {
@@ -107,7 +107,7 @@ fn limited(part: Part, end: usize, number: Option<u64>) -> Result<Option<Header>
     }))
 }
 
-/// The number that a header's text stands for, saturated.
+/// The number that a header's text spells, saturated.
 #[tactic(auto, unfolding(crate::specs::HeaderPart::number_in))]
 fn number_in(part: Part, text: &[u8]) -> Option<u64>
     ensures { result ≡ option_map (min (2 ^ 64 - 1)) (number_in part text.now) }
@@ -130,7 +130,7 @@ fn natural(text: &[u8]) -> Option<u64>
     }
 }
 
-/// What a text of digits is worth, saturated.
+/// The value of a text of digits, saturated.
 fn digits(text: &[u8]) -> Option<u64>
     ensures { result ≡ (if list_all is_digit text.now then Some (min (2 ^ 64 - 1) (value_of text.now)) else None) }
 {

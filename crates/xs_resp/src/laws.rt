@@ -1,4 +1,4 @@
-//! Laws of the definitions that the contracts cite. Each is a function that does nothing.
+//! Laws of the definitions that the contracts cite. Each is a function with an empty body.
 ghost use Rattle.std.specs.Prelude.{◌≡◌, ◌≤◌, ◌↔◌, ℕ, List, [], ◌++◌, length, take, Ok, Err, Some, None};
 ghost use Rattle.std.specs.List.{flat_map, concat};
 ghost use Rattle.xs_resp.specs.declared.reply.Reply.{Reply};
@@ -21,7 +21,7 @@ pub fn array_text()
         text (Reply.Array (items_of replies)) ≡ line 42 (length replies) ++ flat_map text replies }
 {}
 
-/// The items of whole replies are whole, and whole items are those of some whole replies.
+/// The items of complete replies are complete, and complete items are those of some complete replies.
 pub fn whole_items()
     ensures made { (replies : List Reply) → AreWhole replies →
         AreItems (items_of replies).count (items_of replies).tokens }
@@ -29,20 +29,20 @@ pub fn whole_items()
         (replies : List Reply) × AreWhole replies × (items ≡ items_of replies) }
 {}
 
-/// A request is read exactly where it is spelled.
+/// A request is read exactly if the grammar has it.
 pub fn request_is_spelled()
     ensures { (bytes : List ℕ) (found : Found) →
         (request bytes ≡ Ok (Some found))
         ↔ ((found.end ≤ length bytes) × Spells (take found.end bytes) found.words) }
 {}
 
-/// A fault is answered exactly where it stands.
+/// A fault is returned exactly if the bytes have it.
 pub fn fault_stands()
     ensures { (bytes : List ℕ) (wrong : ProtocolFault) →
         (request bytes ≡ Err wrong) ↔ FaultIn bytes wrong }
 {}
 
-/// Nothing is answered exactly where no front of the bytes is a request and no fault stands.
+/// Nothing is returned exactly if no front of the bytes is a request and they have no fault.
 pub fn neither_stands()
     ensures { (bytes : List ℕ) →
         (request bytes ≡ Ok None) ↔ IsOpen bytes }
@@ -55,26 +55,26 @@ pub fn spelling_begins_no_other()
         (bytes ≡ others) × (words ≡ names) }
 {}
 
-/// What is decided on some bytes, a request or a fault, stays so on every continuation.
+/// What is decided on some bytes, a request or a fault, stays decided on every continuation.
 pub fn decision_stays()
     ensures { (bytes more : List ℕ) → Keeps (request bytes) (request (bytes ++ more)) }
 {}
 
-/// However the bytes are cut into pieces, the requests that are read, and what is held behind
-/// them, are those of the bytes joined.
+/// However bytes are cut into pieces, the requests that are read from the pieces, and what is held after them, are
+/// those of the joined bytes.
 pub fn pieces_are_joined()
     ensures { (pieces : List (List ℕ)) (requests : List (List (List ℕ))) (held : Held) →
         ReadsPieces (Ok []) pieces requests held → Reads (concat pieces) requests held }
 {}
 
-/// Some bytes read in one way only.
+/// The reading of some bytes is unique.
 pub fn reading_is_one()
     ensures { (bytes : List ℕ) (requests others : List (List (List ℕ))) (held other : Held) →
         Reads bytes requests held → Reads bytes others other →
         (requests ≡ others) × (held ≡ other) }
 {}
 
-/// All bytes are read: as some requests, and what is held behind them.
+/// All bytes are read: as some requests, and what is held after them.
 pub fn bytes_are_read()
     ensures { (bytes : List ℕ) →
         (requests : List (List (List ℕ))) × ((held : Held) × Reads bytes requests held) }

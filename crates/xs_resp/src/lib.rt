@@ -1,4 +1,4 @@
-//! RESP2, the protocol of Redis: replies as bytes, and requests out of bytes.
+//! RESP2, the protocol of Redis: replies as bytes, and requests from bytes.
 #![tactic(auto)]
 
 pub mod encoder;

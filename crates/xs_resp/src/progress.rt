@@ -6,16 +6,16 @@ use crate::header::{Part, read_header};
 use crate::read_fault::ProtocolFault;
 use crate::word::{read_word, rest_of};
 
-/// How far a request is read: behind its header, and behind some of its words.
+/// How far a request is read: its header, and some of its words.
 #[derive(Clone, Copy, Debug, PartialEq, Eq)]
 pub struct Progress {
-    /// The index behind the words that were met.
+    /// The index after the words that were read.
     pub at: usize,
     /// How many words are left.
     pub left: usize,
 }
 
-/// Reads on as far as the bytes go. None where the header isn't whole.
+/// Reads on as far as the bytes go. None if the header isn't complete.
 pub fn read_on(bytes: &[u8], progress: Option<Progress>) -> Result<Option<Progress>, ProtocolFault>
     requires { IfSome progress (IsProgressOf bytes.now) }
     ensures { Reaches bytes.now result }

@@ -1,10 +1,10 @@
-//! Why bytes are no request.
+//! Why bytes aren't a request.
 use thiserror::Error;
 
 /// How the bytes of a request break the protocol.
 #[derive(Clone, Copy, Debug, PartialEq, Eq)]
 pub enum ProtocolFault {
-    /// What stands for a number is none.
+    /// The text in the place of a number isn't one.
     Length,
     /// A marker or a line end is missing.
     Shape,
@@ -12,10 +12,10 @@ pub enum ProtocolFault {
     Limit,
 }
 
-/// Why a reader gave no request.
+/// Why a reader returned no request.
 #[derive(Clone, Copy, Debug, PartialEq, Eq, Error)]
 pub enum ReadFault {
-    /// What stands for a number is none. The reader has failed.
+    /// The text in the place of a number isn't one. The reader has failed.
     #[error("a number of words or a size of a word is no number")]
     Length,
     /// A marker or a line end is missing. The reader has failed.
@@ -24,7 +24,7 @@ pub enum ReadFault {
     /// A number or a header's line is above its limit. The reader has failed.
     #[error("a number of words, a size of a word or a header is above its limit")]
     Limit,
-    /// Memory ran out. The reader is unchanged: ask again.
+    /// Out of memory. The reader is unchanged; the call can be repeated.
     #[error("out of memory")]
     Memory,
 }

@@ -13,11 +13,11 @@ pub enum Simple {
     Okay,
     /// `PONG`
     Pong,
-    /// `stream`, the type of a key that is there.
+    /// `stream`, the type of a key that exists.
     Stream,
-    /// `none`, the type of one that isn't.
+    /// `none`, the type of a key that doesn't.
     Nothing,
-    /// `RESET`, for a connection that is as new.
+    /// `RESET`, for a connection that is like new.
     Reset,
     /// `QUEUED`, for a command that waits for EXEC.
     Queued,
@@ -30,9 +30,9 @@ pub enum Reply {
     Simple(Simple),
     /// An error.
     Error(Fault),
-    /// An error with a text of its own, in which no line ends.
+    /// An error with a text of its own, which has no line end.
     ErrorText(Bytes),
-    /// An integer. RESP2's are signed numbers of 64 bits; none of these is negative.
+    /// An integer. RESP2's are signed numbers of 64 bits; none here is negative.
     Int(U63),
     /// A bulk string.
     Bulk(Bytes),
@@ -40,15 +40,15 @@ pub enum Reply {
     NullBulk,
     /// An array.
     Array(Replies),
-    /// The header of an array of so many items, which are the replies behind it.
+    /// The header of an array of this many items, which are the replies after it.
     Opening(usize),
     /// The null array.
     NullArray,
 }
 
-/// The items of an array: how many they are, and their tokens in turn. An item that is an array stands there as
-/// its header and the tokens of its own items, so a reply of many small arrays is one list in memory. The tokens are
-/// always this many items, each of them whole.
+/// The items of an array: their number, and their tokens in turn. An item that is an array is its header and the tokens
+/// of its own items, so a reply of many small arrays is one list in memory. The tokens are always this many items, each
+/// of them complete.
 #[derive(Debug, Drop)]
 pub struct Replies {
     count: usize,
@@ -70,7 +70,7 @@ impl Replies {
     ghost use Rattle.std.specs.Prelude.{◌≡◌};
     ghost use Rattle.xs_resp.specs.Whole.{AreItems};
 
-    /// So many items, of which these are the tokens. It takes no memory.
+    /// The items with these tokens; `count` is their number. It takes no memory.
     pub fn new(count: usize, tokens: Tokens) -> Self
         requires { AreItems count tokens }
         ensures { result ≡ record { count = count; tokens = tokens } }
@@ -78,7 +78,7 @@ impl Replies {
         Self { count, tokens }
     }
 
-    /// How many items there are.
+    /// The number of items.
     pub fn count(&self) -> usize
         ensures value { result ≡ self.now.count }
         ensures whole { AreItems self.now.count self.now.tokens }

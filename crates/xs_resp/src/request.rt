@@ -1,4 +1,4 @@
-//! The words of a request that is whole, lent from the bytes that hold it.
+//! The words of a complete request, lent from the bytes that hold it.
 ghost use Rattle.std.specs.Prelude.{◌≡◌, ◌==◌, ◌≤◌, ◌∷◌, [], length, IfOk, MatchOption};
 ghost use Rattle.xs_resp.specs.Reading.{words, words_in, IsWhole};
 
@@ -7,8 +7,8 @@ use std::alloc::{AllocError, Global};
 use std::marker::Model;
 use xs_bytes::{Bytes, List};
 
-/// The words of a whole request, or the last of them. They are lent from the bytes that hold the request, and each is
-/// found once it is asked for. A contract sees the list of them.
+/// The words of a complete request, or the last of them. They are lent from the bytes that hold the request, and each
+/// is found when it is needed. A contract sees the list of them.
 #[derive(Drop)]
 pub struct Request<'a> {
     count: usize,
@@ -37,7 +37,7 @@ impl<'a> Request<'a> {
         }
     }
 
-    /// So many words at the front of these bytes.
+    /// The first `count` words of these bytes.
     pub(crate) fn new(count: usize, bytes: &'a [u8]) -> Self
         requires whole { IsWhole (words count bytes.now) }
         requires small { count ≤ 1048576 }
@@ -46,7 +46,7 @@ impl<'a> Request<'a> {
         Self { count, bytes }
     }
 
-    /// The same words once more.
+    /// A second view of the same words.
     pub fn again(&self) -> Self
         ensures { result ≡ self.now }
     {
@@ -56,7 +56,7 @@ impl<'a> Request<'a> {
         }
     }
 
-    /// How many words there are.
+    /// The number of words.
     pub fn len(&self) -> usize
         ensures count { result ≡ length self.now }
         ensures small { result ≤ 1048576 }
@@ -64,14 +64,14 @@ impl<'a> Request<'a> {
         self.count
     }
 
-    /// Whether there is none.
+    /// Whether there are no words.
     pub fn is_empty(&self) -> bool
         ensures { result ≡ (length self.now == 0) }
     {
         self.count == 0
     }
 
-    /// The first word, and those behind it.
+    /// The first word, and the words after it. None if there are no words.
     pub fn split_first(&self) -> Option<(&'a [u8], Request<'a>)>
         ensures { MatchOption result (self.now ≡ []) (λ first. self.now ≡ first.0.now ∷ first.1) }
     {

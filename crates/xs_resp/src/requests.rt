@@ -1,4 +1,4 @@
-//! The reader of requests, from bytes that come in pieces.
+//! The reader of requests from bytes that come in pieces.
 use crate::header::{Part, read_header};
 use crate::progress::{Progress, read_on};
 use crate::read_fault::{ProtocolFault, ReadFault};
@@ -9,19 +9,19 @@ use std::marker::Model;
 use xs_bytes::{Bytes, List};
 use xs_io::{Fill, FillFault, Input, Source};
 
-/// Where a reader stands.
+/// The place of a reader in its bytes.
 #[derive(Clone, Copy, Debug, PartialEq, Eq)]
 enum State {
     /// At the front of a request.
     Between,
-    /// Behind the header of a request.
+    /// After the header of a request.
     Within(Progress),
     /// At a fault, for good.
     Failed(ProtocolFault),
 }
 
-/// A reader of requests: bytes are read into it in pieces, and whole requests are taken from it.
-/// A contract sees the bytes that it holds, or the fault with which it has failed.
+/// A reader of requests: bytes are read into it in pieces, and complete requests are taken from it. A contract sees the
+/// bytes that it holds, or the fault with which it has failed.
 #[derive(Debug, Drop)]
 pub struct Requests {
     alloc: Global,
@@ -57,7 +57,7 @@ impl Requests {
         }
     }
 
-    /// A reader that holds nothing, with memory for so many bytes.
+    /// A reader that holds nothing, with memory for `capacity` bytes.
     pub fn with_capacity(alloc: Global, capacity: usize) -> Result<Self, AllocError>
         ensures { IfOk result (λ requests. requests ≡ Ok []) }
     {
@@ -68,7 +68,7 @@ impl Requests {
         })
     }
 
-    /// Drops all that is held, and a fault. Its memory is kept, but for what a great request took.
+    /// Drops all that is held, and a fault. Its memory is kept, except what a large request needed.
     pub fn clear(&mut self)
         ensures { self.new ≡ Ok [] }
     {
@@ -76,7 +76,7 @@ impl Requests {
         self.state = State::Between;
     }
 
-    /// Whether a whole request stands at the front. It takes no memory.
+    /// Whether a complete request is at the front. It takes no memory.
     ///
     /// # Errors
     /// What is wrong with the bytes, for good; never `Memory`.
@@ -101,7 +101,8 @@ impl Requests {
         }
     }
 
-    /// The words of the request at the front, which is whole, lent from the bytes that are held. It takes no memory.
+    /// The words of the request at the front, lent from the bytes that are held. The request has to be complete. It
+    /// takes no memory.
     pub fn front(&self) -> Request<'_>
         requires { HasNext self.now }
         ensures { result ≡ front_of self.now }
@@ -111,7 +112,7 @@ impl Requests {
         Request::new(header.number, rest_of(bytes, header.end))
     }
 
-    /// How many bytes the request at the front takes, which is whole. It takes no memory.
+    /// The number of bytes of the request at the front, which has to be complete. It takes no memory.
     pub fn front_len(&self) -> usize
         requires { HasNext self.now }
         ensures { (bytes : List ℕ) (found : Found) → self.now ≡ Ok bytes → request bytes ≡ Ok (Some found) →
@@ -124,7 +125,7 @@ impl Requests {
         read_on(self.input.bytes(), progress).unwrap().unwrap().at
     }
 
-    /// Drops the request at the front, which is whole. It takes no memory.
+    /// Drops the request at the front, which has to be complete. It takes no memory.
     pub fn skip(&mut self)
         requires { HasNext self.old }
         ensures { Skips self.old self.new }
@@ -138,9 +139,8 @@ impl Requests {
         self.state = State::Between;
     }
 
-    /// The words of the next request, copied, which is dropped. None while it isn't whole. What it answers but None, it
-    /// would answer whatever bytes come behind.
-    /// It takes memory only where a request is whole.
+    /// Removes the next request, and returns its words, copied. None until it is complete. Any other result is final:
+    /// bytes that come later don't change it. It takes memory only if a request is complete.
     ///
     /// # Errors
     /// `Memory`, and the reader is unchanged; else what is wrong with the bytes, for good.

@@ -1,4 +1,4 @@
-//! The tokens of a reply, one after another, where they lie.
+//! The tokens of a reply, one after another, in their place.
 ghost use Rattle.std.specs.Prelude.{◌≡◌, ◌+◌, ◌<◌, ◌≤◌, [], ◌∷◌, length, take, drop, slice_index_or};
 ghost use Rattle.xs_resp.specs.ReplyItems.{tokens_of};
 ghost use Rattle.xs_resp.specs.Marks.{token_in, string_length};
@@ -35,9 +35,9 @@ pub(crate) struct Found<'a> {
     pub mark: Mark,
     /// Its string.
     pub string: &'a [u8],
-    /// The index of the token behind it.
+    /// The index of the token after it.
     pub next: usize,
-    /// How many bytes the strings have up to the end of its own.
+    /// The number of bytes of the strings, up to the end of its own.
     pub end: usize,
 }
 
@@ -74,7 +74,7 @@ impl<'a> Sequence<'a> {
         }
     }
 
-    /// One token that has no string.
+    /// The sequence of one token that has no string.
     fn single(first: Mark) -> Self
         requires { string_length first ≡ 0 }
         ensures { result ≡ token_in first [] ∷ [] }
@@ -86,14 +86,14 @@ impl<'a> Sequence<'a> {
         }
     }
 
-    /// How many tokens there are.
+    /// The number of tokens.
     pub fn len(&self) -> usize
         ensures { result ≡ length self.now }
     {
         self.marks.len() + 1
     }
 
-    /// The token of this index. The strings of those before it have so many bytes.
+    /// The token at `index`. The strings of those before it have `at` bytes.
     pub fn token(&self, index: usize, at: usize) -> Found<'a>
         requires within { index < length self.now }
         requires strings { at ≡ length (strings_of (take index self.now)) }
@@ -113,7 +113,7 @@ impl<'a> Sequence<'a> {
     }
 }
 
-/// The mark of this index, the first one included.
+/// The mark at `index`, the first one included.
 fn mark_at(first: Mark, marks: &[Mark], index: usize) -> Mark
     requires { index ≤ length marks.now }
     ensures { result ≡ slice_index_or (first ∷ marks.now) index first }

@@ -1,4 +1,4 @@
-//! Tokens in turn, of which replies are written.
+//! Tokens in turn, from which replies are written.
 ghost use Rattle.std.specs.Prelude.{◌≡◌, [], ◌∷◌, ◌++◌, length, IfOk, OnOk, OnErr};
 ghost use Rattle.xs_resp.specs.Token as token;
 ghost use Rattle.xs_resp.specs.Marks.{token_in, tokens_in, string_length, strings_length};
@@ -8,11 +8,11 @@ use std::alloc::{AllocError, Global};
 use std::marker::Model;
 use xs_bytes::U63;
 
-/// How many bytes of room the string of a token is given.
+/// The room for the string of a token, in bytes.
 const STRING_ROOM: usize = 16;
 
-/// A list of tokens. A token is a whole reply that is no array, or the header of an array, whose items follow it. The
-/// strings of all tokens lie in one buffer, one behind the other.
+/// A list of tokens. A token is a complete reply that isn't an array, or the header of an array, whose items follow it.
+/// The strings of all tokens are in one buffer, one after the other.
 #[derive(Debug, Drop)]
 pub struct Tokens {
     marks: Vec<Mark>,
@@ -42,7 +42,7 @@ impl Tokens {
         }
     }
 
-    /// No tokens, with room for so many.
+    /// No tokens, with room for `count`.
     pub fn with_capacity(alloc: Global, count: usize) -> Result<Self, AllocError>
         ensures { IfOk result (λ tokens. tokens ≡ []) }
     {
@@ -51,7 +51,7 @@ impl Tokens {
         Ok(tokens)
     }
 
-    /// Makes room for so many tokens more, whose strings are of usual length.
+    /// Makes room for `more` further tokens, with strings of usual length.
     pub fn reserve(&mut self, more: usize) -> Result<(), AllocError>
         ensures { self.new ≡ self.old }
     {
@@ -59,7 +59,7 @@ impl Tokens {
         self.strings.reserve(more.saturating_mul(STRING_ROOM))
     }
 
-    /// Appends an integer. Nothing is appended if memory is refused, here and below.
+    /// Appends an integer. If memory runs out, nothing is appended, here and below.
     pub fn push_int(&mut self, number: U63) -> Result<(), AllocError>
         ensures ok { OnOk result (self.new ≡ self.old ++ token.Int number ∷ []) }
         ensures err { OnErr result (self.new ≡ self.old) }
@@ -91,7 +91,7 @@ impl Tokens {
         self.push_mark(Mark::NullBulk)
     }
 
-    /// Appends the header of an array of so many items.
+    /// Appends the header of an array of `count` items.
     pub fn push_array(&mut self, count: usize) -> Result<(), AllocError>
         ensures ok { OnOk result (self.new ≡ self.old ++ token.Array count ∷ []) }
         ensures err { OnErr result (self.new ≡ self.old) }

@@ -5,12 +5,12 @@ ghost use Rattle.xs_resp.specs.Reading.{span_before_crlf, bulk_string};
 use crate::header::{Part, read_header};
 use crate::read_fault::ProtocolFault;
 
-/// Where a word stands.
+/// The place of a word in some bytes.
 #[derive(Clone, Copy, Debug, PartialEq, Eq)]
 pub struct Span {
     /// The index of its first byte.
     pub start: usize,
-    /// The index behind its last byte.
+    /// The index after its last byte.
     pub end: usize,
 }
 
@@ -22,7 +22,7 @@ pub fn rest_of(bytes: &[u8], at: usize) -> &[u8]
     bytes.split_at(at).1
 }
 
-/// Reads the word at the front, with its header and its line end. None where more bytes decide.
+/// Reads the word at the front, with its header and its line end. None if more bytes decide.
 #[tactic(auto, using(crate::proofs::Reading::header_ends), unfolding(crate::specs::Reading::bulk_string))]
 pub fn read_word(bytes: &[u8]) -> Result<Option<Span>, ProtocolFault>
     ensures value { result ≡ bulk_string bytes.now }
@@ -39,7 +39,7 @@ pub fn read_word(bytes: &[u8]) -> Result<Option<Span>, ProtocolFault>
     read_closing(header.end, end, rest_of(bytes, end))
 }
 
-/// Reads the line end behind the bytes of a word, which stand between these indices.
+/// Reads the line end after the bytes of a word, which are between these indices.
 fn read_closing(start: usize, end: usize, rest: &[u8]) -> Result<Option<Span>, ProtocolFault>
     ensures { result ≡ span_before_crlf start end rest.now }
 {

@@ -13,10 +13,10 @@ use crate::reply::{Replies, Reply, Simple};
 use itoa::Buffer;
 use std::alloc::AllocError;
 
-/// No token has more bytes beside its string.
+/// The most bytes that a token has in addition to its string.
 pub(crate) const SHORT: usize = 128;
 
-/// Appends the text of a reply. `out` is unchanged on refusal.
+/// Appends the text of a reply. If memory runs out, `out` is unchanged.
 pub fn encode(reply: &Reply, out: &mut Vec<u8>) -> Result<(), AllocError>
     ensures ok { OnOk result (out.new.items ≡ out.old.items ++ text reply.now) }
     ensures err { OnErr result (out.new.items ≡ out.old.items) }
@@ -56,7 +56,7 @@ fn write_items(items: &Replies, out: &mut Vec<u8>) -> Result<(), AllocError>
     write_tokens(marks, strings, out)
 }
 
-/// Appends tokens, whose strings stand one behind the other.
+/// Appends tokens, whose strings are one after the other.
 fn write_tokens(marks: &[Mark], strings: &[u8], out: &mut Vec<u8>) -> Result<(), AllocError>
     requires { strings_length marks.now ≡ length strings.now }
     ensures { Writes result out.old.items out.new.items (flat_map token_text (tokens_in marks.now strings.now)) }
@@ -87,7 +87,7 @@ pub(crate) fn write_token(mark: Mark, string: &[u8], out: &mut Vec<u8>) -> Resul
     }
 }
 
-/// Appends what stands before the string of a token that has one.
+/// Appends what comes before the string of a token that has one.
 #[tactic(auto, unfolding(crate::specs::ReplyText::text))]
 pub(crate) fn write_header(mark: Mark, string: &[u8], out: &mut Vec<u8>) -> Result<(), AllocError>
     requires string { string_of (token_in mark string.now) ≡ string.now }

@@ -1,5 +1,5 @@
-//! Tests of replies that are written piece by piece. They are a crate of their own over the library, so that it is proved
-//! once and not a second time with them.
+//! Tests of replies that are written in pieces. They are a crate of their own over the library, so it is proved once
+//! and not a second time with them.
 #![tactic(auto)]
 
 #[cfg(test)]

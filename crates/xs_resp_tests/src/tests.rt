@@ -1,10 +1,10 @@
-//! Replies that are written piece by piece.
+//! Replies that are written in pieces.
 use std::alloc::{AllocError, Global};
 use std::test::Fail;
 use xs_bytes::Bytes;
 use xs_resp::{Encoder, Replies, Reply, Simple, Tokens};
 
-/// A string of so many bytes, no two neighbours of which are alike.
+/// A string of `length` bytes, no two neighbours of which are equal.
 fn string(alloc: Global, length: usize) -> Result<Vec<u8>, AllocError> {
     let mut bytes = Vec::with_capacity(alloc, length)?;
     for index in 0..length {
@@ -36,7 +36,7 @@ fn text_of_five(alloc: Global, bytes: &[u8]) -> Result<Vec<u8>, AllocError> {
     Ok(text)
 }
 
-/// Takes all pieces that are left: the bytes, and how many pieces they were.
+/// Takes all pieces that are left. Returns the bytes, and the number of pieces.
 fn pieces(alloc: Global, encoder: &mut Encoder) -> Result<(Vec<u8>, usize), AllocError> {
     let mut bytes = Vec::new(alloc);
     for count in 0..1_000 {

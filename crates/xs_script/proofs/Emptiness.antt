@@ -1,4 +1,4 @@
--- What tests of emptiness tell.
+-- What tests of emptiness return.
 use Rattle.std.proofs.Common.{◌≡◌, ℕ, ◌<◌, ◌==◌, Bool, true, false, List, [], ◌∷◌, length, sym, ◌∙◌, refl, arith}
 
 pub none-came : (got : List ℕ) → length got ≡ 0 → got ≡ []

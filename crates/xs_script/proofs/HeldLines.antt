@@ -1,4 +1,4 @@
--- The first line end behind bytes in which no line ends.
+-- The first line end after bytes without one.
 use Rattle.std.proofs.Common.{◌≡◌, ℕ, ◌+◌, ◌<◌, false, ◌||◌, List, [], ◌∷◌, ◌++◌, length, take, drop, sym, ap, ◌∙◌}
 use Rattle.std.proofs.Common.{append_assoc, arith, length-append, length-drop}
 use Rattle.std.specs.List.{list_any}

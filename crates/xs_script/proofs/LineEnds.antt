@@ -26,7 +26,7 @@ none_before byte bs at fits h = none_at byte (take at bs) (λ k low e.
 pub split_at : (byte : ℕ) (bs : List ℕ) (at : ℕ) → at < length bs → eqb (get_or bs at 0) byte ≡ true → bs ≡ take at bs ++ byte ∷ drop (at + 1) bs
 split_at byte bs at low e = sym (take-append-drop at bs) ∙ ap (λ r. take at bs ++ r) (drop_more bs at 0 low ∙ ap (λ b. b ∷ drop (at + 1) bs) (eqb-true _ _ e))
 
--- where a byte stands first, or that it stands nowhere
+-- the first place of a byte, or that there is none
 pub first_place : (byte : ℕ) (bs : List ℕ) (r : Option ℕ) → IsFirstByte (is_byte byte) bs r
     → MatchOption r (list_any (λ b. eqb b byte) bs ≡ false) (λ at. (at < length bs) × (list_any (λ b. eqb b byte) (take at bs) ≡ false) × (bs ≡ take at bs ++ byte ∷ drop (at + 1) bs))
 first_place byte bs None h = none_at byte bs (λ k low e. h k (omega arith) low e)

@@ -17,7 +17,7 @@ use Rattle.xs_script.specs.Script.{Script, Served, AreServed, events_of_lines, a
 use Rattle.xs_keys.specs.Step.{StepAt}
 use Rattle.std.specs.List.{flat_map}
 
--- how an answer of the keyspace goes on with a history
+-- how an answer of the keyspace continues a history
 pub answer-follows : (past : History) (old new : Content) (now : ℕ) (words : List (List ℕ)) (asked : Option Command) (answer : Reply) → IsContent old past
     → Answered (StepAt now) old words asked answer new → (next : History) × IsContent new next × Answered (λ before. JoinsOrIsLeftOut before now) past words asked answer next
 answer-follows past old new now words (Some command) answer is said =

@@ -17,7 +17,7 @@ lines-ended (b ∷ line) tail h = by (lines-ended line tail) (eqb b 10) h where
   by rest true e = absurd (false≢true (sym e))
   by rest false e = rw (rest e) refl
 
--- so is the last one that lacks it, unless it is empty
+-- the last one, which lacks it, is a line unless it is empty
 pub lines-last : (line : List ℕ) → list_any is_line_end line ≡ false → 0 < length line → script_lines line ≡ line ∷ []
 lines-last [] h some = absurd (omega arith)
 lines-last (b ∷ []) h some = by (eqb b 10) h where
@@ -30,7 +30,7 @@ lines-last (b ∷ next ∷ line) h some = by (lines-last (next ∷ line)) (eqb b
   by rest true e = absurd (false≢true (sym e))
   by rest false e = rw (rest e (omega arith)) refl
 
--- whole lines come first
+-- complete lines come first
 pub lines-join : (lines : List (List ℕ)) (tail : List ℕ) → AreLines lines → script_lines (flat_map with_end lines ++ tail) ≡ lines ++ script_lines tail
 lines-join [] tail are = refl
 lines-join (line ∷ lines) tail are =

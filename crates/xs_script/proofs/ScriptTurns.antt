@@ -23,7 +23,7 @@ use Rattle.xs_script.specs.ScriptRun.{piece, IsFew, IsRead, IsInHand, IsReadOut,
 use Rattle.xs_script.proofs.ScriptLines.{read-more, read-line, read-lines, lines-last}
 use Rattle.xs_script.proofs.ScriptHeadline.{served-line, is-script, capped-more, capped-sent}
 
--- ---- a piece at most stands behind the first line end
+-- ---- at most a piece follows the first line end
 
 or-false : (p q : Bool) → (p || q) ≡ false → q ≡ false
 or-false true q e = cc
@@ -83,7 +83,7 @@ stands-with-more read sent got script later keyspace s none small is same number
   written = counted ∙ s.written;
 }
 
--- what is owed is written
+-- the unwritten bytes are written
 pub after-written : (read sent : List ℕ) (script later : State) (keyspace : Content) → ScriptIsAfter read sent script keyspace → IsWritten script later → ScriptIsAfter read (sent ++ script.owed.items) later keyspace
 after-written read sent script later keyspace s paid = record {
   lines = s.lines;
@@ -101,7 +101,7 @@ after-written read sent script later keyspace s paid = record {
 pub in-hand : (read : List ℕ) (lines : List (List ℕ)) (held line behind : List ℕ) → IsRead read lines held → held ≡ line ++ behind → list_any is_line_end line ≡ false → IsInHand read lines line behind
 in-hand read lines held line behind is split none = (is.0 ∙ ap (λ h. flat_map with_end lines ++ h) split, is.1, none)
 
--- a line past the limit is no script line
+-- a line above the limit is not a script line
 pub line-long : (line : List ℕ) → line_limit < length line → line_of line ≡ None
 line-long line long =
     let past : leb (length line) line_limit ≡ false = grind (arith, nat_tests) in
@@ -150,7 +150,7 @@ module _ (read sent owed : List ℕ) (lines : List (List ℕ)) (written : ℕ) (
   Ends cause end =
       RunsBy cause end read (sent ++ owed) × ((count : ℕ) → count < length owed → RunsBy writer (Err (fault.Write (counter_at (written + count)))) read (sent ++ take count owed))
 
-  -- the line in hand is no script line
+  -- the line in hand is not a script line
   pub ends-wrong : (cause : Cause) (number : ℕ) (line behind : List ℕ) → IsInHand read lines line behind
       → ((rest : Passing) (ended : Bool) → (cause ≡ input → IsAtEnd rest × (ended ≡ true)) → IsReadOut line behind rest ended) → line_of line ≡ None → number ≡ counter_at (length lines)
       → Ends cause (Err (fault.Line (counter_at (number + 1)) (counter_at (written + length owed))))

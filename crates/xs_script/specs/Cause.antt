@@ -1,4 +1,4 @@
--- Why a script is at its end.
+-- Why a script ended.
 use Rattle.std.specs.Prelude.{◌≡◌, ℕ, ◌+◌, ◌⊎◌, Bool, true, List, Option}
 use Rattle.xs_io.specs.Passing.{Passing, IsAtEnd}
 use Rattle.xs_io.specs.Device.{counter_at}
@@ -9,11 +9,11 @@ pub data Cause : Type 0 where
   reader : Cause  -- the reader failed, or was asked too often
   writer : Cause  -- the writer failed
 
--- how often a reader is asked
+-- the most calls of a reader
 abbrev pub reads_limit : ℕ
 reads_limit = 1000000000000
 
--- what a reader that has these bytes left, and a writer, tell of a cause
+-- what is known of a cause from a reader that has these bytes left, and from a writer
 abbrev pub HasCause : Cause → Passing → Bool → Bool → ℕ → ℕ → Bool → Type 0
 HasCause itself rest ended broken before calls unwritten = Unit {0}
 HasCause input rest ended broken before calls unwritten = IsAtEnd rest × (ended ≡ true)

@@ -1,4 +1,4 @@
--- The lines of a script, and what a line says: a moment, a client's name, and the words of a request.
+-- The lines of a script, and the content of a line: a moment, a client's name, and the words of a request.
 use Rattle.std.specs.Prelude.{ℕ, ◌^◌, Bool, ◌==◌, List, [], ◌∷◌, length, nat_le, nat_lt, Option, Some, None}
 use Rattle.std.specs.Prelude.{option_and_then, if◌then◌else◌}
 use Rattle.std.specs.Option.{option_map}
@@ -19,12 +19,12 @@ abbrev pub script_lines : List ℕ → List (List ℕ)
 script_lines [] = []
 script_lines (byte ∷ bytes) = if is_line_end byte then [] ∷ script_lines bytes else onto_first byte (script_lines bytes)
 
--- what stands between the spaces of a line
+-- the parts of a line between its spaces
 abbrev pub parts_of : List ℕ → List (List ℕ)
 parts_of [] = [] ∷ []
 parts_of (byte ∷ bytes) = if byte == 32 then [] ∷ parts_of bytes else onto_first byte (parts_of bytes)
 
--- the parts of what stands behind a space, where there is one
+-- the parts after a space, if there is one
 abbrev pub parts_behind : Option (List ℕ) → List (List ℕ)
 parts_behind None = []
 parts_behind (Some rest) = parts_of rest
@@ -32,11 +32,11 @@ parts_behind (Some rest) = parts_of rest
 abbrev pub has_bytes : List ℕ → Bool
 has_bytes part = nat_lt 0 (length part)
 
--- parts that all have bytes
+-- parts none of which is empty
 abbrev pub full_parts : List (List ℕ) → Option (List (List ℕ))
 full_parts parts = if list_all has_bytes parts then Some parts else None
 
--- the most bytes that a line has
+-- the most bytes of a line
 abbrev pub line_limit : ℕ
 line_limit = 1048576
 
@@ -51,6 +51,6 @@ request_of (moment ∷ []) = None
 request_of (moment ∷ name ∷ []) = None
 request_of (moment ∷ name ∷ word ∷ words) = option_map (λ now. (now, word ∷ words)) (moment_of moment)
 
--- the moment and the words of a script line; none where it is no script line
+-- the moment and the words of a script line; None if it isn't a script line
 abbrev pub line_of : List ℕ → Option (ℕ × List (List ℕ))
 line_of line = if nat_le (length line) line_limit then option_and_then request_of (full_parts (parts_of line)) else None

@@ -1,4 +1,4 @@
--- What a script writes: the replies to its lines, in order.
+-- The output of a script: the replies to its lines, in order.
 use Rattle.std.specs.Prelude.{◌≡◌, ℕ, false, List, [], ◌∷◌, ◌++◌, Option, Some, None, IsSomeAnd}
 use Rattle.std.specs.List.{flat_map, list_any}
 use Rattle.xs_resp.specs.declared.reply.Reply.{Reply}
@@ -18,13 +18,13 @@ Script past (line ∷ lines) out last =
     × IsSomeAnd (line_of line) (λ request. IsAnswer (λ before. JoinsOrIsLeftOut before request.0) past request.1 answer next)
     × (out ≡ text answer ++ more) × Script next lines more last
 
--- a line that was answered: its moment, the command that its words asked, if they did, and the answer
+-- a line that was answered: its moment, the command that its words asked, if they did, and the reply
 pub record Served : Type 0 where
   pub now : ℕ
   pub asked : Option Command
   pub answer : Reply
 
--- the line has that moment, and its words are that command; or nothing was asked, since they have a fault or memory
+-- the line has that moment, and its words are that command; or nothing was asked, because they have a fault or memory
 -- ran out
 abbrev pub IsServedLine : List ℕ → Served → Type 0
 IsServedLine line served =
@@ -35,7 +35,7 @@ AreServed [] [] = Unit {0}
 AreServed (line ∷ lines) (one ∷ more) = IsServedLine line one × AreServed lines more
 AreServed _ _ = ⊥
 
--- the commands that were asked, at their moments, in the order of the lines, and the answers to them
+-- the commands that were asked, at their moments, in the order of the lines, and the replies to them
 abbrev pub onto_event : ℕ → Option Command → List Event → List Event
 onto_event now None events = events
 onto_event now (Some command) events = (now, command) ∷ events
@@ -52,8 +52,8 @@ abbrev pub answers_of_lines : List Served → List Reply
 answers_of_lines [] = []
 answers_of_lines (one ∷ more) = onto_answer one.asked one.answer (answers_of_lines more)
 
--- a whole script: each line is answered, of the commands that were asked the headline holds, and the text is that of
--- all the answers
+-- a complete script: each line is answered, the headline holds for the commands that were asked, and the text is that
+-- of all the replies
 pub record IsScript (lines : List (List ℕ)) (out : List ℕ) : Type 0 where
   pub served : List Served
   pub are_served : AreServed lines served
@@ -65,7 +65,7 @@ pub record IsScript (lines : List (List ℕ)) (out : List ℕ) : Type 0 where
 abbrev pub with_end : List ℕ → List ℕ
 with_end line = line ++ 10 ∷ []
 
--- no line holds a line end
+-- no line contains a line end
 abbrev pub AreLines : List (List ℕ) → Type 0
 AreLines [] = Unit {0}
 AreLines (line ∷ lines) = (list_any is_line_end line ≡ false) × AreLines lines

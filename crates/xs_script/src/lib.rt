@@ -1,5 +1,5 @@
-//! Scripts: lines in, replies out. A script is a text whose lines are commands, each with its moment and the name of its
-//! client; its commands are asked of a keyspace of its own.
+//! Scripts: lines in, replies out. A script is a text whose lines are commands, each with its moment and the name of
+//! its client. They are applied to a keyspace of its own.
 #![tactic(auto)]
 
 pub mod fault;

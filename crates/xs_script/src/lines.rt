@@ -1,3 +1,3 @@
-//! The lines of a script: where they end, and what they say.
+//! The lines of a script: their ends, and their content.
 pub mod held;
 pub mod parts;

@@ -13,13 +13,13 @@ use std::alloc::Global;
 use xs_io::{Fill, FillFault, Sink, Source, write_all};
 use xs_keys::Keyspace;
 
-/// How often a reader is asked.
+/// The most calls of a reader.
 const READS: u64 = 1_000_000_000_000;
 
-/// Replies are held up to so many bytes.
+/// The unwritten bytes from which on replies are written.
 const WRITE_BYTES: usize = 65_536;
 
-/// Takes the script's next turn, and reads on if it waits. The script's end is the error.
+/// Takes the script's next turn, and reads on if it waits. If the script ends, its end is the error.
 fn take_turn<R: Source>(
     reader: &mut R,
     left: &mut u64,
@@ -60,7 +60,7 @@ fn take_turn<R: Source>(
     Ok(())
 }
 
-/// Writes what the script owes. Its end is the error.
+/// Writes the unwritten bytes. If the script ends, its end is the error.
 fn send<W: Sink>(writer: &mut W, script: &mut Script) -> Result<(), Result<u64, ScriptFault>>
     ensures sent { OnOk result (Appends (W.held writer.old) (W.held writer.new) script.old.owed.items) }
     ensures paid { OnOk result (IsWritten script.old script.new) }
@@ -78,7 +78,7 @@ fn send<W: Sink>(writer: &mut W, script: &mut Script) -> Result<(), Result<u64, 
     }
 }
 
-/// Writes what the script owes, if that is enough. Its end is the error.
+/// Writes the unwritten bytes, if they are enough. If the script ends, its end is the error.
 fn send_on<W: Sink>(writer: &mut W, script: &mut Script) -> Result<(), Result<u64, ScriptFault>>
     ensures sends { (keyspace : Content) (read sent : List ℕ) → ScriptIsAfter read sent script.old keyspace →
         (more : List ℕ) × Appends (W.held writer.old) (W.held writer.new) more
@@ -98,7 +98,7 @@ fn send_on<W: Sink>(writer: &mut W, script: &mut Script) -> Result<(), Result<u6
     }
 }
 
-/// Writes all that a script owes that has ended so.
+/// Writes all unwritten bytes of a script that has ended so.
 fn send_last<W: Sink>(
     writer: &mut W,
     script: &mut Script,
@@ -115,8 +115,8 @@ fn send_last<W: Sink>(
     }
 }
 
-/// Drives a script to its end: its turns are taken one after the other, bytes are read into it where it waits, and what
-/// it owes is written once that is enough, and all of it at its end.
+/// Drives a script to its end: its turns are taken one after the other, bytes are read into it if it waits, and its
+/// unwritten bytes are written once they are enough, and all of them at its end.
 fn drive<R: Source, W: Sink>(
     reader: &mut R,
     writer: &mut W,
@@ -144,8 +144,8 @@ fn drive<R: Source, W: Sink>(
     }
 }
 
-/// Runs a script: each line is a request at its moment, and its reply is written. The keyspace is empty at
-/// first. Answers how many bytes were written.
+/// Runs a script: each line is a request at its moment, and its reply is written. The keyspace is empty at the start.
+/// Returns the number of bytes that were written.
 pub fn run_script<R: Source, W: Sink>(
     alloc: Global,
     reader: &mut R,

@@ -17,7 +17,7 @@ use xs_stream::Moment;
 /// Why a line has no reply.
 #[derive(Clone, Copy, Debug, PartialEq, Eq)]
 pub enum LineFault {
-    /// It is no script line.
+    /// It is not a script line.
     NoLine,
     /// Out of memory.
     Memory,
@@ -35,7 +35,7 @@ fn answer(alloc: Global, keyspace: &mut Keyspace, now: Moment, words: &[Bytes]) 
     }
 }
 
-/// Answers a script line, and appends the text of the reply. A line that isn't answered leaves `out` as it was.
+/// Answers a script line, and appends the text of the reply. If a line isn't answered, `out` is unchanged.
 pub fn serve_line(
     alloc: Global,
     keyspace: &mut Keyspace,

@@ -1,4 +1,4 @@
-//! A script, with no IO of its own: each of its turns answers a line.
+//! A script without IO of its own: each of its turns answers a line.
 ghost use Rattle.std.specs.Prelude.{◌≡◌, ◌+◌, ◌<◌, ◌≤◌, ℕ, List, length, Err};
 ghost use Rattle.xs_io.specs.Device.{counter_at};
 ghost use Rattle.xs_script.specs.Cause.{itself, input};
@@ -13,7 +13,7 @@ use xs_keys::Keyspace;
 /// The most bytes of a line, without its LF.
 const LINE_LIMIT: usize = 1_048_576;
 
-/// What a turn of a script comes to.
+/// The result of a turn of a script.
 #[derive(Clone, Copy, Debug, PartialEq, Eq)]
 pub enum Turn {
     /// It goes on.
@@ -24,15 +24,15 @@ pub enum Turn {
     Ends(Result<u64, ScriptFault>),
 }
 
-/// A script: the bytes that came in and aren't taken yet, and the replies that it owes.
+/// A script: the bytes that were read and aren't taken yet, and the unwritten replies.
 #[derive(Drop)]
 pub struct Script {
     alloc: Global,
     pub held: HeldBytes,
     pub owed: Vec<u8>,
-    /// How many bytes of replies were written.
+    /// The number of bytes of replies that were written.
     pub written: u64,
-    /// How many lines were answered.
+    /// The number of lines that were answered.
     pub number: u64,
 }
 
@@ -50,14 +50,14 @@ impl Script {
         }
     }
 
-    /// How many bytes are written once all that is owed is.
+    /// The number of bytes that are written after all unwritten ones are.
     fn total(&self) -> u64
         ensures { result ≡ counter_at (self.now.written + length self.now.owed.items) }
     {
         self.written.saturating_add(self.owed.len() as u64)
     }
 
-    /// The end where the line in hand is no script line.
+    /// The end if the line in hand is not a script line.
     fn line_error(&self) -> Result<u64, ScriptFault>
         ensures { result ≡ Err (ScriptFault.Line (counter_at (self.now.number + 1))
             (counter_at (self.now.written + length self.now.owed.items))) }
@@ -68,7 +68,7 @@ impl Script {
         })
     }
 
-    /// The end where memory runs out.
+    /// The end if memory runs out.
     pub fn out_of_memory(&self) -> Result<u64, ScriptFault>
         ensures { result ≡ Err (ScriptFault.Memory (counter_at (self.now.written + length self.now.owed.items))) }
     {
@@ -77,7 +77,7 @@ impl Script {
         })
     }
 
-    /// The end where no more can be read.
+    /// The end if no more can be read.
     pub fn read_error(&self) -> Result<u64, ScriptFault>
         ensures { result ≡ Err (ScriptFault.Read (counter_at (self.now.written + length self.now.owed.items))) }
     {
@@ -86,7 +86,7 @@ impl Script {
         })
     }
 
-    /// The end where the writer failed behind so many of the bytes that it owes.
+    /// The end if the writer fails after `count` of the unwritten bytes.
     pub fn write_error(&self, count: usize) -> Result<u64, ScriptFault>
         ensures { result ≡ Err (ScriptFault.Write (counter_at (self.now.written + count))) }
     {
@@ -95,7 +95,7 @@ impl Script {
         })
     }
 
-    /// Takes the next turn: a line is answered, if one is whole.
+    /// Takes the next turn: a line is answered, if one is complete.
     pub fn advance(&mut self, keyspace: &mut Keyspace) -> Turn
         ensures turns { (read sent : List ℕ) → ScriptIsAfter read sent self.old keyspace.old →
             AfterTurn result (ScriptIsAfter read sent self.new keyspace.new)
@@ -124,7 +124,7 @@ impl Script {
         Turn::Goes
     }
 
-    /// Ends, since the input has ended: the last line may lack its end.
+    /// Ends the script, because the input has ended: the last line may lack its end.
     pub fn end(&mut self, keyspace: &mut Keyspace) -> Result<u64, ScriptFault>
         requires { IsWaiting self.old.held }
         ensures { (read sent : List ℕ) → ScriptIsAfter read sent self.old keyspace.old →
@@ -141,7 +141,7 @@ impl Script {
         }
     }
 
-    /// Says that all that it owed was written.
+    /// Notes that all unwritten bytes are written.
     pub fn mark_written(&mut self)
         ensures { IsWritten self.old self.new }
     {

@@ -1,4 +1,4 @@
--- Which words the command line takes, of all that there are.
+-- Which words the command line accepts, of all that there are.
 use Rattle.std.proofs.Common.{◌≡◌, ℕ, Bool, true, false, cond, ◌||◌, List, [], ◌∷◌, length, Option, Some, None, inl}
 use Rattle.std.proofs.Common.{inr, ◌⊎◌, sym, ap, ◌∙◌, subst, refl, codes}
 use Rattle.std.specs.Prelude.{◌&&◌, not, is_some, drop, find, slice_get, encode_utf8}
@@ -64,7 +64,7 @@ find-one p r = by (p r) where
   by true = inr refl
   by false = inl refl
 
--- ---- a word that passes as a flag is no flag
+-- ---- a word that is accepted as a flag is no flag
 
 abbrev first_rule : List Rule → Rule
 first_rule [] = new_rule []
@@ -105,7 +105,7 @@ plain_word w h = by (long_of w) h where
   by None h = short (short_of w) h
   by (Some p) h = absurd (long-fails _ p.1 (find-one (λ a. not (is_some a.index) && has_long a p.0) help) h)
 
--- a word that names no command is the end of options, where a value is refused
+-- a word that names no command is the end of options, if a value is refused
 only_dashes : (s : Shape) (w : Text) (t : Bool) → bytes_eq w dashes ≡ t
     → (step_fault s 1 nothing_held value ≡ [] → ⊥)
     → cond t [] (flag_word_fault rules false (long_of w) w nothing_held) ≡ []
@@ -114,7 +114,7 @@ only_dashes : (s : Shape) (w : Text) (t : Bool) → bytes_eq w dashes ≡ t
 only_dashes s w true e no_value h step = (bytes_eq-Decides w dashes).0 e
 only_dashes s w false e no_value h step = absurd (no_value (subst (λ (m : Held × Step). step_fault s 1 m.0 m.1 ≡ []) (plain_word w h) step))
 
--- ---- behind `script`
+-- ---- after `script`
 
 leaf_more : (more : List Text) → level_fault leaf [] nothing_held (dashes ∷ more) false [] ≡ [] → more ≡ []
 unfolding clap_on_literals
@@ -133,7 +133,7 @@ leaf_words (w ∷ more) h =
     let e = only_dashes leaf w (bytes_eq w dashes) refl (λ v. cc) word step in
     inr (ap (λ v. v ∷ more) e ∙ ap (λ m. dashes ∷ m) (leaf_more more (subst (λ v. level_fault leaf [] nothing_held (v ∷ more) false [] ≡ []) e h)))
 
--- ---- behind the program's name
+-- ---- after the program's name
 
 met_is : (w : Text) → (w ≡ codes "script") ⊎ ((subcommand_met names idle w ≡ Some (codes "help")) ⊎ (subcommand_met names idle w ≡ None))
 met_is w = by (answers_to w (codes "script", [])) (answers_to w (codes "help", [])) refl where
@@ -144,13 +144,13 @@ met_is w = by (answers_to w (codes "script", [])) (answers_to w (codes "help", [
   by false true e = inr (inl refl)
   by false false e = inr (inr refl)
 
--- behind the end of options no command is read
+-- after the end of options no command is read
 none_behind_dashes : (name : Text) (more : List Text) → fault_of program (name ∷ dashes ∷ more) ≡ [] → ⊥
 unfolding clap_on_literals
 none_behind_dashes name [] h = cc
 none_behind_dashes name (x ∷ xs) h = cc
 
--- what is left to fail behind the walk over these words
+-- what can still fail after the walk over these words
 abbrev stop : List Text → Option (Text × List Text)
 stop words = (walk rules names nothing_held words).stopped
 
@@ -164,7 +164,7 @@ last words =
 abbrev behind : List Text → Kinds
 behind words = or_else (entered_fault (built program) (stop words)) (last words)
 
--- `script` is entered, with all the words behind it
+-- `script` is entered, with all the words after it
 behind_script : (name : Text) (words : List Text) → fault_of program (name ∷ codes "script" ∷ words) ≡ [] → level_fault leaf [] nothing_held words false [] ≡ []
 unfolding walked
 behind_script name words h =
@@ -173,7 +173,7 @@ behind_script name words h =
     let at : Some (codes "script", words) ≡ stop all = ap (λ (w : Walk). w.stopped) (walk_stopped rules names (walk_from nothing_held) (codes "script") [] words) in
     subst (λ s. entered_fault (built program) s ≡ []) (sym at) entered_none
 
--- the first word passes by itself
+-- the first word is accepted by itself
 abbrev met : Text → Option Text → Held × Step
 met w m = subcommand_or_other rules m idle 1 w nothing_held
 
@@ -204,14 +204,14 @@ asks_by name w rest h (inl e) =
       by (inl f) = (name, inl (ap (λ v. name ∷ v ∷ rest) e ∙ ap (λ r. name ∷ codes "script" ∷ r) f))
       by (inr f) = (name, inr (ap (λ v. name ∷ v ∷ rest) e ∙ ap (λ r. name ∷ codes "script" ∷ r) f))
 
--- words that pass ask for the script
+-- words that are accepted ask for the script
 pub asks : (words : List Text) → fault_of program words ≡ [] → AsksScript words
 unfolding clap_on_literals
 asks [] h = cc
 asks (name ∷ []) h = cc
 asks (name ∷ w ∷ rest) h = asks_by name w rest h (met_is w)
 
--- and the other way round
+-- and the converse
 pub passes : (words : List Text) → AsksScript words → fault_of program words ≡ []
 unfolding clap_on_literals
 passes words (name, inl e) = ap (fault_of program) e

@@ -1,7 +1,7 @@
 -- What examples compute: numbers in decimal.
 use Rattle.std.specs.Fmt.{digits}
 
--- its line is what an example names
+-- the definitions that examples compute
 unfoldable pub example_functions : Type 0
 unfolding digits
 example_functions = Unit {0}

@@ -1,4 +1,4 @@
--- Texts that a writer takes one after the other, and what is said of work.
+-- Texts that a writer takes one after the other, and reports of work.
 use Rattle.std.proofs.Common.{◌≡◌, ◌⊎◌, inl, inr, refl, Bool, true, false, ℕ, List, ◌++◌, Option, sym, ap, ◌∙◌, append_assoc}
 use Rattle.std.proofs.Common.{Result, Ok, Err, IfOk}
 use Rattle.xs_io.specs.Passing.{Passing, Appends}
@@ -16,11 +16,11 @@ use Rattle.xs_work.specs.WorkOutcome.{IsClosed, HasServed}
 use Rattle.xs_work.specs.Texts.{Says}
 use Rattle.xs_server.specs.Report.{work_text, IsServeCause, ReportsWork}
 
--- where the writer fails, what was to follow isn't said
+-- if the writer fails, what was to follow isn't written
 pub fails-before : (a b : List ℕ) (old new : Passing) (broken : Bool) → Says a old new broken → broken ≡ true → Says (a ++ b) old new broken
 fails-before a b old new broken h failed = (h.0, h.1 ++ b, ap (λ l. l ++ b) h.2 ∙ append_assoc h.0 h.1 b, h.3, inr failed)
 
--- a text that was taken whole, and what follows
+-- a text that was taken completely, and what follows
 pub follows : (a b : List ℕ) (old mid new : Passing) (broken : Bool) → Appends old mid a → Says b mid new broken → Says (a ++ b) old new broken
 follows a b old mid new broken taken h =
     (a ++ h.0, h.1, ap (λ l. a ++ l) h.2 ∙ sym (append_assoc a h.0 h.1), Appends-trans old mid new a h.0 taken h.3, h.4)
@@ -43,7 +43,7 @@ closed-at-zero fault_of IsDone (Ok outcome) status old new held holds broken clo
 closed-at-zero fault_of IsDone (Err failed) status old new held holds broken closed told zero =
     let bad : 1 ≡ 0 = sym told.0 ∙ zero in absurd cc
 
--- it is 0 and nothing is said, or 1 and a cause is said
+-- it is 0 and nothing is reported, or 1 and a cause is reported
 pub told-of-work : {W A B : Type 0} (fault_of : B → WorkFault) (worked : Result A B) (status : ℕ) (old new : W) (held holds : Passing) (broken : Bool)
     → ReportsWork fault_of worked status old new held holds broken → ((status ≡ 0) × (new ≡ old)) ⊎ ((status ≡ 1) × (cause : List ℕ) × IsServeCause cause × Says cause held holds broken)
 told-of-work fault_of (Ok outcome) status old new held holds broken told = inl told

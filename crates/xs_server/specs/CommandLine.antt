@@ -3,7 +3,7 @@ use Rattle.std.specs.Prelude.{◌≡◌, ℕ, ◌⊎◌, List, [], ◌∷◌, co
 use Rattle.clap.specs.Words.{one_text}
 use Rattle.clap.specs.declared.parser.matches.Found.{Found}
 
--- the program's name and `script`, behind which the end of options may stand
+-- the program's name and `script`, and possibly the end of options after it
 abbrev pub AsksScript : List (List ℕ) → Type 0
 AsksScript words =
     (name : List ℕ) × ((words ≡ name ∷ codes "script" ∷ []) ⊎ (words ≡ name ∷ codes "script" ∷ codes "--" ∷ []))

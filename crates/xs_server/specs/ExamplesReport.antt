@@ -1,4 +1,4 @@
--- What the program says at its end, by examples: each fault has its line, and its status.
+-- What the program reports at its end, by examples: each fault has its line, and its status.
 use Rattle.std.specs.Prelude.{◌≡◌, [], codes, Ok, Err}
 use Rattle.xs_desk.specs.declared.opening.DeskError.TheVariants as desk
 use Rattle.xs_script.specs.declared.fault.ScriptFault.TheVariants.{Line, Read, Write, Memory}

@@ -1,7 +1,7 @@
-//! A number of bytes, as an option of the command line has it.
+//! A number of bytes, as an option of the command line spells it.
 
-/// How many bytes a text names: a number, and k, m or g behind it if it counts 2^10, 2^20 or 2^30 bytes. None if it is
-/// no such text, or names 2^64 bytes or more.
+/// The number of bytes that a text spells: a number, with k, m or g after it if it counts 2^10, 2^20 or 2^30 bytes.
+/// None if it isn't such a text, or spells 2^64 bytes or more.
 pub fn byte_count(text: &str) -> Option<u64> {
     let shift = match text.as_bytes().last()? {
         b'k' | b'K' => 10,

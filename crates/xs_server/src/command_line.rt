@@ -15,7 +15,7 @@ use std::net::IpAddr;
 use std::str::FromStr;
 use xs_files::{CompactPolicy, SyncPolicy};
 
-/// What `serve` is told.
+/// The options of `serve`.
 #[derive(Clone, Copy, Debug, PartialEq, Eq)]
 pub struct ServeOptions {
     /// The port of 127.0.0.1, from 1 on.
@@ -26,7 +26,7 @@ pub struct ServeOptions {
     pub each: u64,
 }
 
-/// Where `run` keeps its log.
+/// The log of `run`.
 #[derive(Debug, Drop)]
 pub struct LogOptions {
     /// The folder of the log's files.
@@ -37,31 +37,31 @@ pub struct LogOptions {
     pub compact: CompactPolicy,
 }
 
-/// What `run` is told.
+/// The options of `run`.
 #[derive(Debug, Drop)]
 pub struct RunOptions {
-    /// The address that it listens on.
+    /// The address on which it listens.
     pub bind: IpAddr,
     /// The port, from 1 on.
     pub port: u16,
     /// How many connections are served at once, each by a worker of its own, from 1 to 1024.
     pub workers: u64,
-    /// After how many seconds a connection is closed that sends nothing; 0 is never.
+    /// After how many seconds a connection that sends nothing is closed; 0 is never.
     pub idle: u64,
-    /// How many bytes the queues may hold when something is added; 0 if there is no bound.
+    /// The most bytes that the queues may have when something is added; 0 if there is no bound.
     pub max_memory: u64,
     /// The log, if there is one.
     pub log: Option<LogOptions>,
-    /// The file of the password, if one is wanted.
+    /// The file of the password, if one is required.
     pub password_file: Option<String>,
 }
 
-/// What `compact` is told.
+/// The options of `compact`.
 #[derive(Debug, Drop)]
 pub struct CompactOptions {
     /// The folder of the log's files.
     pub folder: String,
-    /// Whether it goes on, and compacts each time that it is due.
+    /// Whether it goes on, and compacts each time that a compaction is due.
     pub watches: bool,
 }
 
@@ -70,7 +70,7 @@ pub struct CompactOptions {
 pub enum Asked {
     /// To run the script on standard input.
     Script,
-    /// To serve so many connections.
+    /// To serve a number of connections.
     Serve(ServeOptions),
     /// To serve connections up to a signal.
     Run(RunOptions),
@@ -78,9 +78,9 @@ pub enum Asked {
     Compact(CompactOptions),
     /// A text of help, or the version, which is printed.
     Text,
-    /// Nothing that the program does. The text that says so is printed.
+    /// Nothing that the program does. The text that reports this is printed.
     Nothing,
-    /// There was no memory to read it.
+    /// Memory ran out before it was read.
     Memory,
 }
 
@@ -116,7 +116,7 @@ const NOTHING_TO_COMPACT: &str =
 const NOT_OPEN: &str =
     "error: whoever reaches --bind beyond loopback may do all: add --password-file, or --open if that is meant\n";
 
-/// Whether the words run a script: no error means that they do.
+/// Whether the words run a script: if they do, there is no error.
 fn parse(alloc: Global, words: &[String]) -> Result<(), Error>
     ensures ok { IfOk result (λ _. AsksScript (map (λ word. string_bytes word) words.now)) }
     ensures err { AsksScript (map (λ word. string_bytes word) words.now) → IfErr result
@@ -133,7 +133,7 @@ fn parse(alloc: Global, words: &[String]) -> Result<(), Error>
     }
 }
 
-/// An option that has to be there.
+/// An option that is required.
 fn number_option<'a>(
     alloc: Global,
     name: &'a str,
@@ -290,7 +290,7 @@ fn bind_of(matches: &ArgMatches) -> Result<IpAddr, &'static str> {
     }
 }
 
-/// How many bytes the queues of `run` may hold, or what is wrong with the word that says it.
+/// The most bytes that the queues of `run` may have, or what is wrong with that word.
 fn max_memory_of(matches: &ArgMatches) -> Result<u64, &'static str> {
     match matches.get_str("max-memory") {
         Some(text) => byte_count(text).ok_or(NO_BYTES),
@@ -298,7 +298,7 @@ fn max_memory_of(matches: &ArgMatches) -> Result<u64, &'static str> {
     }
 }
 
-/// When the log of `run` is synced, or what is wrong with the words that name a log.
+/// When the log of `run` is synced, or what is wrong with the words for the log.
 fn policy_of(matches: &ArgMatches) -> Result<SyncPolicy, &'static str> {
     let folder = matches.get_str("log");
     if matches!(folder, Some("")) {
@@ -314,7 +314,7 @@ fn policy_of(matches: &ArgMatches) -> Result<SyncPolicy, &'static str> {
     }
 }
 
-/// When the folder of the log of `run` is compacted, or what is wrong with the words that say it.
+/// When the folder of the log of `run` is compacted, or what is wrong with that word.
 fn compact_policy_of(matches: &ArgMatches) -> Result<CompactPolicy, &'static str> {
     match matches.get_str("compact") {
         None => Ok(CompactPolicy::Serving),
@@ -326,7 +326,7 @@ fn compact_policy_of(matches: &ArgMatches) -> Result<CompactPolicy, &'static str
     }
 }
 
-/// The log of `run`, if the words behind it name one.
+/// The log of `run`, if the words after it name one.
 fn log_of(
     alloc: Global,
     matches: &ArgMatches,
@@ -343,7 +343,7 @@ fn log_of(
     }
 }
 
-/// The file of the password of `run`, if the words behind it name one.
+/// The file of the password of `run`, if the words after it name one.
 fn password_file_of(alloc: Global, matches: &ArgMatches) -> Result<Option<String>, AllocError> {
     match matches.get_str("password-file") {
         Some(path) => Ok(Some(String::from_str(alloc, path)?)),
@@ -351,7 +351,7 @@ fn password_file_of(alloc: Global, matches: &ArgMatches) -> Result<Option<String
     }
 }
 
-/// What the words behind `run` say.
+/// The options of the words after `run`.
 fn run_options_of(
     matches: &ArgMatches,
     bind: IpAddr,
@@ -370,7 +370,7 @@ fn run_options_of(
     })
 }
 
-/// What the words behind `serve` say.
+/// The options of the words after `serve`.
 fn options_of(matches: &ArgMatches) -> Option<ServeOptions>
     ensures port { IfSome result (λ options. IsValueOf ⟦<u16 as FromStr>⟧.from_str_gives
         (found_of matches.now) (codes "port") options.port) }
@@ -386,7 +386,7 @@ fn options_of(matches: &ArgMatches) -> Option<ServeOptions>
     })
 }
 
-/// What words ask for that run no script.
+/// What words ask for that don't run a script.
 #[derive(Drop)]
 enum Others {
     Serve(ServeOptions),
@@ -397,7 +397,7 @@ enum Others {
     Nothing,
 }
 
-/// What words ask for that run no script, or the text that answers them.
+/// What words ask for that don't run a script, or the text that answers them.
 fn parse_others<S: AsStr>(alloc: Global, words: &[S]) -> Result<Others, Error> {
     let program = whole_program(alloc)?;
     let matches = program.try_get_matches_from(words)?;
@@ -422,7 +422,7 @@ fn parse_others<S: AsStr>(alloc: Global, words: &[S]) -> Result<Others, Error> {
     }
 }
 
-/// What the words behind `run` ask for.
+/// What the words after `run` ask for.
 fn parse_run(alloc: Global, matches: &ArgMatches) -> Result<Others, Error> {
     let bind = match bind_of(matches) {
         Ok(bind) => bind,
@@ -450,7 +450,7 @@ fn parse_run(alloc: Global, matches: &ArgMatches) -> Result<Others, Error> {
     )
 }
 
-/// Parses words, of which `run help` is `run --help`.
+/// Parses words; `run help` is the same as `run --help`.
 fn parse_with_help(alloc: Global, words: &[String]) -> Result<Others, Error> {
     if let [name, command, last] = words {
         if last.as_str() == "help" && command.as_str() != "help" {
@@ -485,8 +485,7 @@ fn read_others(rt: &HostRuntime, words: &[String]) -> Asked
     }
 }
 
-/// Reads the words of a command line, the program's name first, and prints on standard error what is wrong with
-/// them.
+/// Reads the words of a command line, the program's name first, and prints on standard error what is wrong with them.
 pub fn read_words(rt: &HostRuntime, words: &[String]) -> Asked
     ensures script { result ≡ Asked.Script → AsksScript (map (λ word. string_bytes word) words.now) }
     ensures others { AsksScript (map (λ word. string_bytes word) words.now) → (result ≡ Asked.Script)
@@ -501,7 +500,7 @@ pub fn read_words(rt: &HostRuntime, words: &[String]) -> Asked
     }
 }
 
-/// What the words that the program was called with ask for. Words that aren't UTF-8 are a wrong command line.
+/// What the words with which the program was called ask for. Words that aren't UTF-8 are a wrong command line.
 pub fn read_command_line(rt: &HostRuntime) -> Asked {
     match std::env::args(rt) {
         Ok(words) => match words.collect::<Vec<String>>(rt.alloc()) {

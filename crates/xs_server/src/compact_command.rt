@@ -12,7 +12,7 @@ use xs_files::listing::list;
 use xs_files::{Compaction, Compactor, Progress, compact_folder};
 use xs_io::{Sink, write_all};
 
-/// The line that says what became of a compaction.
+/// The line that reports the result of a compaction.
 fn done_line(alloc: Global, folder: &str, done: Option<Compaction>) -> Result<String, AllocError> {
     match done {
         Some(compaction) => compaction_line(alloc, folder, compaction),
@@ -20,7 +20,7 @@ fn done_line(alloc: Global, folder: &str, done: Option<Compaction>) -> Result<St
     }
 }
 
-/// Compacts a folder of logs, and says on `errors` what was done, or why not. It gives the status of the program.
+/// Compacts a folder of logs, and reports on `errors` what was done, or why not. Returns the status of the program.
 pub fn compact_and_report<E: Sink>(files: &HostRuntime, folder: &str, errors: &mut E) -> u8
     ensures { result ≤ 1 }
 {
@@ -41,14 +41,14 @@ pub fn compact_and_report<E: Sink>(files: &HostRuntime, folder: &str, errors: &m
     }
 }
 
-/// What compacts a folder of logs.
+/// The compactor of a folder of logs.
 fn compactor_of(alloc: Global, folder: &str) -> Result<Compactor, AllocError> {
     let progress = Arc::new(alloc, Progress::new())?;
     Compactor::new(alloc, folder, &progress)
 }
 
-/// Compacts a folder of logs each time that it is due, up to a signal, and says on `errors` what was done, or why not.
-/// It gives the status of the program: 1 if there is no such folder, or no memory at the start.
+/// Compacts a folder of logs each time that a compaction is due, up to a signal, and reports on `errors` what was done,
+/// or why not. Returns the status of the program: 1 if there is no such folder, or no memory at the start.
 pub fn watch_and_report<E: Sink, R: Threads + Wait + Clock>(
     rt: &R,
     files: &HostRuntime,

@@ -1,4 +1,4 @@
-//! A folder of logs is compacted when that is due, and what became of it is said.
+//! Compacts a folder of logs when a compaction is due, and reports the result.
 use crate::report::report_memory;
 use std::alloc::{AllocError, Global};
 use std::sync::Wait;
@@ -8,10 +8,10 @@ use std::time::{Clock, Duration};
 use xs_files::{Compaction, Compactor, FolderFault};
 use xs_io::{Sink, write_all};
 
-/// How often a folder is looked at.
+/// How often a folder is checked, in seconds.
 const SECONDS: u64 = 1;
 
-/// The line that says what a compaction has done.
+/// The line that reports what a compaction has done.
 pub fn compaction_line(
     alloc: Global,
     folder: &str,
@@ -21,13 +21,13 @@ pub fn compaction_line(
     format!(in alloc; "xs_server: log {folder}: snapshot-{number} in the place of {logs} logs\n")
 }
 
-/// The line that says why a folder that is used isn't compacted.
+/// The line that reports why a folder that is in use isn't compacted.
 fn refusal_line(alloc: Global, folder: &str, fault: FolderFault) -> Result<String, AllocError> {
     format!(in alloc; "xs_server: log {folder}: not compacted: {fault}\n")
 }
 
-/// Compacts a folder in a thread of its own: when that ends, the C library gives the memory back to the system that it
-/// has taken.
+/// Compacts a folder in a thread of its own: when that ends, the C library gives the memory that it has taken back to
+/// the system.
 fn compact_aside<R: Threads>(
     rt: &R,
     files: &HostRuntime,
@@ -37,7 +37,7 @@ fn compact_aside<R: Threads>(
     done
 }
 
-/// Compacts a folder if that is due. It gives None if there was nothing to do.
+/// Compacts a folder if a compaction is due. Returns None if there was nothing to do.
 fn compact_once_due<R: Threads>(
     rt: &R,
     files: &HostRuntime,
@@ -49,7 +49,7 @@ fn compact_once_due<R: Threads>(
     Ok(None)
 }
 
-/// Compacts a folder if that is due, and says what became of it. A fault of the writer is passed over.
+/// Compacts a folder if a compaction is due, and reports the result. A fault of the writer is ignored.
 pub fn compact_and_say<W: Sink, R: Threads>(
     rt: &R,
     files: &HostRuntime,
@@ -72,7 +72,7 @@ pub fn compact_and_say<W: Sink, R: Threads>(
     }
 }
 
-/// Looks each second whether a compaction of a folder is due, and does it.
+/// Checks each second whether a compaction of a folder is due, and does it.
 pub fn compact_each_second<W: Sink, R: Threads + Wait + Clock>(
     rt: &R,
     files: &HostRuntime,

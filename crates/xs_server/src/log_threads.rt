@@ -1,4 +1,4 @@
-//! The threads beside a log: one tells how far it is read, one syncs it, and one compacts its folder.
+//! The threads beside a log: one reports the progress of reading it, one syncs it, and one compacts its folder.
 use crate::compacting::compact_each_second;
 use std::alloc::{AllocError, Global};
 use std::sync::atomic::{AtomicBool, Ordering};
@@ -9,19 +9,19 @@ use std::time::{Clock, Duration};
 use xs_files::{Compactor, Progress, Syncer};
 use xs_io::{Sink, ToWrite, write_all};
 
-/// How often the first two come back.
+/// The period of the first two, in seconds.
 const SECONDS: u64 = 1;
 
-/// A thread that tells how far a log is read.
+/// A thread that reports the progress of reading a log.
 #[derive(Drop)]
 pub struct Telling {
-    /// What the reader tells it.
+    /// The progress of the reader.
     pub progress: Arc<Progress>,
     ended: Arc<AtomicBool>,
 }
 
 impl Telling {
-    /// The log is read.
+    /// Notes that the log is read.
     pub fn end(&self) {
         self.ended.store(true, Ordering::SeqCst);
     }
@@ -51,7 +51,8 @@ fn tell_each_second<W: Sink, R: Wait + Clock>(
     }
 }
 
-/// Starts the thread that tells how far the log of a folder is read. The end of the program doesn't wait for it.
+/// Starts the thread that reports the progress of reading the log of a folder. The end of the program doesn't wait for
+/// it.
 pub fn start_telling<
     W: Sink + Send + Drop + 'static,
     R: Threads + Wait + Clock + Copy + Send + Drop + 'static,
@@ -96,7 +97,7 @@ pub fn start_syncing<R: Threads + Wait + Clock + Copy + Send + Drop + 'static>(
     }
 }
 
-/// Starts the thread that compacts the folder of a log, and says on standard error what became of it. The end of the
+/// Starts the thread that compacts the folder of a log, and reports the results on standard error. The end of the
 /// program doesn't wait for it.
 pub fn start_compacting<R: Threads + Wait + Clock + Copy + Send + Drop + 'static>(
     rt: &R,

@@ -29,10 +29,11 @@ use xs_replay::EventLog;
 use xs_tcp::information::LogSettings;
 use xs_work::{Gate, LoggedEnd, Mode, work_logged};
 
-/// How many calls share a write to the log, if it isn't synced for them: the workers of the first ones go on meanwhile.
+/// How many calls share a write to the log, if they don't wait for a sync: the workers of the first ones go on
+/// meanwhile.
 const ROUND: u64 = 32;
 
-/// Says why a folder isn't opened. It gives the status of the program.
+/// Reports why a folder isn't opened. Returns the status of the program.
 pub fn report_folder<E: Sink>(alloc: Global, folder: &str, fault: FolderFault, errors: &mut E) -> u8
     ensures { result ≡ 1 }
 {
@@ -42,7 +43,7 @@ pub fn report_folder<E: Sink>(alloc: Global, folder: &str, fault: FolderFault, e
     }
 }
 
-/// The words that name the snapshot that was read, if its number isn't 0.
+/// The words for the snapshot that was read, if its number isn't 0.
 fn snapshot_words(alloc: Global, snapshot: u64) -> Result<String, AllocError> {
     if snapshot == 0 {
         return Ok(String::new(alloc));
@@ -50,7 +51,7 @@ fn snapshot_words(alloc: Global, snapshot: u64) -> Result<String, AllocError> {
     format!(in alloc; "snapshot-{snapshot}, ")
 }
 
-/// The line that says what was read of a log.
+/// The line that reports what was read of a log.
 fn log_line(
     alloc: Global,
     folder: &str,
@@ -64,7 +65,7 @@ fn log_line(
     )
 }
 
-/// Says why work with a log has ended. It gives the status of the program.
+/// Reports why work with a log has ended. Returns the status of the program.
 fn report_end<E: Sink>(
     alloc: Global,
     log: &LogOptions,
@@ -86,16 +87,16 @@ fn report_end<E: Sink>(
     }
 }
 
-/// A log that is opened.
+/// A log that was opened.
 #[derive(Drop)]
 pub struct OpenedLog {
-    /// What its folder gave.
+    /// The result of opening its folder.
     pub folder: OpenedFolder<HostRuntime>,
-    /// What is told of its compactions.
+    /// The state of its compactions.
     pub compactions: Arc<CompactionState>,
 }
 
-/// Locks the folder of a log, compacts it if that is due at a start, and opens it.
+/// Locks the folder of a log, compacts it if a compaction is due at a start, and opens it.
 fn open_locked<E: Sink, R: Threads>(
     rt: &R,
     files: &HostRuntime,
@@ -119,7 +120,7 @@ fn open_locked<E: Sink, R: Threads>(
     open_folder(files, folder, lock, log.policy, progress)
 }
 
-/// Starts the threads beside a log that its options ask for, and gives what is told of compactions.
+/// Starts the threads beside a log for which its options ask. Returns the state of compactions.
 fn start_beside<R: Threads + Wait + Clock + Copy + Send + Drop + 'static>(
     rt: &R,
     files: HostRuntime,
@@ -136,10 +137,10 @@ fn start_beside<R: Threads + Wait + Clock + Copy + Send + Drop + 'static>(
     Ok(compactions)
 }
 
-/// Opens the folder of a log, and says what was read. A thread of its own tells each second how far it is.
+/// Opens the folder of a log, and reports what was read. A thread of its own reports the progress each second.
 ///
 /// # Errors
-/// The status of the program, 1. The cause was said on `errors`.
+/// The status of the program, 1. The cause was reported on `errors`.
 pub fn open_logs<
     W: Sink + Send + Drop + 'static,
     E: Sink,
@@ -186,8 +187,8 @@ pub fn open_logs<
     }
 }
 
-/// After how many calls answers that wait for the log are handed out. If each time is a sync, all calls that there are
-/// share it.
+/// After how many calls the answers that wait for the log are handed out. If that means a sync each time, all calls
+/// that there are share it.
 fn most_held_back(policy: SyncPolicy) -> u64 {
     match policy {
         SyncPolicy::Always => u64::MAX,
@@ -207,8 +208,8 @@ fn sync_beside<R: Threads + Wait + Clock + Copy + Send + Drop + 'static>(
     }
 }
 
-/// A keyspace, and the log that is noted in. The events of the log have left the content of what was there before them.
-/// Contracts see the content.
+/// A keyspace, and the log in which its events are noted. Before the events of the log the content was `first`; they
+/// have left that of the keyspace. Contracts see the content.
 #[derive(Drop)]
 struct Store {
     first: Snapshot<Keyspace>,
@@ -245,7 +246,7 @@ fn work_over<
     work_logged(rt, alloc, gates, DEPTH, clock, mode, keyspace, first, log)
 }
 
-/// Serves the connections of the gates, over a store, and says why it has ended.
+/// Serves the connections of the gates, over a store. Returns why it has ended.
 fn serve_store<R: Threads + Wait + Clock + Copy + Send + Drop + 'static>(
     rt: &R,
     alloc: Global,
@@ -257,8 +258,8 @@ fn serve_store<R: Threads + Wait + Clock + Copy + Send + Drop + 'static>(
     work_over(rt, alloc, gates, clock, patience, store)
 }
 
-/// Listens, and serves the connections that come, over what a folder of logs has given, up to a signal or a failure of
-/// the log. It gives the status of the program, and the cause is said on `errors`.
+/// Listens, and serves the connections that come, over the content of a folder of logs, up to a signal or a failure of
+/// the log. Returns the status of the program. The cause is reported on `errors`.
 pub fn run_logged<
     W: Sink + Send + Drop + 'static,
     E: Sink,

@@ -1,7 +1,7 @@
-//! A server of Redis Streams over RESP2. Its command `run` serves connections until it is stopped; its command `compact`
-//! makes a snapshot of the closed logs of a folder, once or each time that it is due; its command `serve` serves so many
-//! connections on a port of 127.0.0.1; its command `script` reads a script on standard input and writes the replies on
-//! standard output.
+//! A server of Redis Streams over RESP2. Its command `run` serves connections until it is stopped; its command
+//! `compact` makes a snapshot of the closed logs of a folder, once or each time that a compaction is due; its command
+//! `serve` serves a number of connections on a port of 127.0.0.1; its command `script` reads a script on standard input
+//! and writes the replies on standard output.
 #![tactic(auto)]
 
 mod byte_count;

@@ -13,10 +13,10 @@ use xs_connection::Password;
 use xs_io::Sink;
 use xs_work::say;
 
-/// The permissions of a file by which others than its owner read it.
+/// The permissions of a file with which others than its owner can read it.
 const READ_BY_OTHERS: u32 = 0o044;
 
-/// How long a password may be: as long as a word of a client that hasn't given it.
+/// The most bytes of a password: those of a word of a client that hasn't given it.
 const MOST_BYTES: usize = 16_384;
 
 /// Why a file gives no password.
@@ -54,7 +54,7 @@ pub fn first_line(text: &[u8]) -> &[u8] {
     line.strip_suffix(b"\r").unwrap_or(line)
 }
 
-/// The password that a file holds, which is its first line.
+/// The password in a file, which is its first line.
 ///
 /// # Errors
 /// A `PasswordFault`.
@@ -78,7 +78,7 @@ fn read_password<R: Files + Alloc<A = Global>>(
     Ok(Password::keep(kept))
 }
 
-/// Whether others than its owner may read a file.
+/// Whether others than its owner can read a file.
 fn is_read_by_others<R: Files>(rt: &R, path: &str) -> bool {
     match fs::metadata(rt, path) {
         Ok(metadata) => metadata.permissions().mode() & READ_BY_OTHERS != 0,
@@ -86,7 +86,7 @@ fn is_read_by_others<R: Files>(rt: &R, path: &str) -> bool {
     }
 }
 
-/// Says why a file gives no password. It gives the status of the program.
+/// Reports why a file gives no password. Returns the status of the program.
 fn report_fault<E: Sink>(alloc: Global, path: &str, fault: PasswordFault, errors: &mut E) -> u8
     ensures { result ≡ 1 }
 {
@@ -96,17 +96,17 @@ fn report_fault<E: Sink>(alloc: Global, path: &str, fault: PasswordFault, errors
     }
 }
 
-/// Says that others may read the file of the password. Without memory it isn't said.
+/// Reports that others can read the file of the password. Without memory this isn't reported.
 fn report_open<E: Sink>(alloc: Global, path: &str, errors: &mut E) {
     if let Ok(text) = format!(in alloc; "xs_server: others may read the password file {path}\n") {
         say(errors, text.as_bytes());
     }
 }
 
-/// The password of `run`, if it is given a file of one. If others may read the file, a line on `errors` says so.
+/// The password of `run`, if a file of one is given. If others can read the file, a line on `errors` reports that.
 ///
 /// # Errors
-/// The status of the program, 1. The cause was said on `errors`.
+/// The status of the program, 1. The cause was reported on `errors`.
 pub fn password_of<R: Files + Alloc<A = Global>, E: Sink>(
     rt: &R,
     alloc: Global,

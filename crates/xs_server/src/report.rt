@@ -1,4 +1,4 @@
-//! What the program says on standard error, and its status.
+//! What the program reports on standard error, and its status.
 ghost use Rattle.std.specs.Prelude.{◌≡◌, ◌++◌, true, false, decimal};
 ghost use Rattle.xs_server.specs.Report.{status_of, script_fault_text, memory_text, line_text, listening_text};
 ghost use Rattle.xs_server.specs.Report.{work_text};
@@ -11,7 +11,7 @@ use xs_io::Sink;
 use xs_script::ScriptFault;
 use xs_work::{WorkFailed, WorkFault, WorkOutcome, say};
 
-/// Writes the line of a script's fault, passes over a fault of the writer, and gives the status of the program.
+/// Writes the line for a script's fault, and ignores a fault of the writer. Returns the status of the program.
 pub fn report_script<W: Sink>(errors: &mut W, fault: &ScriptFault) -> u8
     ensures status { result ≡ status_of fault.now }
     ensures said { Says (script_fault_text fault.now) (W.held errors.old) (W.held errors.new) (W.broken errors.new) }
@@ -33,7 +33,7 @@ pub fn report_script<W: Sink>(errors: &mut W, fault: &ScriptFault) -> u8
     }
 }
 
-/// Writes a line, and gives the status of the program.
+/// Writes a line. Returns the status of the program.
 pub fn report_text<W: Sink>(errors: &mut W, line: &[u8]) -> u8
     ensures status { result ≡ 1 }
     ensures said { Says line.now (W.held errors.old) (W.held errors.new) (W.broken errors.new) }
@@ -42,7 +42,7 @@ pub fn report_text<W: Sink>(errors: &mut W, line: &[u8]) -> u8
     1
 }
 
-/// Writes the line of a want of memory, and gives the status of the program.
+/// Writes the line for out of memory. Returns the status of the program.
 pub fn report_memory<W: Sink>(errors: &mut W) -> u8
     ensures status { result ≡ 1 }
     ensures said { Says memory_text (W.held errors.old) (W.held errors.new) (W.broken errors.new) }
@@ -51,7 +51,7 @@ pub fn report_memory<W: Sink>(errors: &mut W) -> u8
     1
 }
 
-/// Writes the line of a port that can't be listened on, and gives the status of the program.
+/// Writes the line for a port that can't be listened on. Returns the status of the program.
 pub fn report_listening<W: Sink>(errors: &mut W) -> u8
     ensures status { result ≡ 1 }
     ensures said { Says listening_text (W.held errors.old) (W.held errors.new) (W.broken errors.new) }
@@ -60,7 +60,7 @@ pub fn report_listening<W: Sink>(errors: &mut W) -> u8
     1
 }
 
-/// Writes the line of a fault of work, passes over a fault of the writer, and gives the status of the program.
+/// Writes the line for a fault of work, and ignores a fault of the writer. Returns the status of the program.
 pub fn report_work<W: Sink>(errors: &mut W, fault: &WorkFault) -> u8
     ensures status { result ≡ 1 }
     ensures said { Says (work_text fault.now) (W.held errors.old) (W.held errors.new) (W.broken errors.new) }
@@ -74,7 +74,7 @@ pub fn report_work<W: Sink>(errors: &mut W, fault: &WorkFault) -> u8
     }
 }
 
-/// Gives the status of the program after work: 0 for a summary; else 1, and the line of its fault is written.
+/// Returns the status of the program after work: 0 for a summary; else 1, and the line for its fault is written.
 pub fn report_worked<W: Sink, G: Drop>(
     errors: &mut W,
     worked: &Result<WorkOutcome<G>, WorkFailed<G>>,
@@ -103,14 +103,14 @@ fn say_number<W: Sink>(out: &mut W, front: &[u8], number: u64, back: &[u8])
     say(out, back);
 }
 
-/// Writes on which port of 127.0.0.1 the server listens. A fault of the writer is passed over.
+/// Writes the port of 127.0.0.1 on which the server listens. A fault of the writer is ignored.
 pub fn report_ready<W: Sink>(out: &mut W, port: u16)
     ensures { Says (ready_text port) (W.held out.old) (W.held out.new) (W.broken out.new) }
 {
     say_number(out, b"listening 127.0.0.1:", u64::from(port), b"\n");
 }
 
-/// Writes that a line is no script line, up to a fault of the writer.
+/// Writes that a line is not a script line, up to a fault of the writer.
 fn report_line<W: Sink>(errors: &mut W, number: u64)
     ensures { Says (line_text number) (W.held errors.old) (W.held errors.new) (W.broken errors.new) }
 {

@@ -1,4 +1,4 @@
-//! The program's command `run`: a server that stays.
+//! The program's command `run`: a server that runs until it is stopped.
 ghost use Rattle.std.specs.Prelude.{◌≡◌, length, All, IfOk, IfErr};
 ghost use Rattle.xs_session.specs.declared.manner.Manner.TheVariants as manner;
 ghost use Rattle.xs_work.specs.Gates.{new_gate};
@@ -27,7 +27,7 @@ use xs_tcp::patience::Patience;
 use xs_tcp::run_gate::{RunGate, again};
 use xs_work::{Gate, work_with};
 
-/// What an error of listening is called.
+/// The text for an error of listening.
 fn name_of(error: &io::Error) -> &'static str {
     match error.kind() {
         ErrorKind::AddrInUse => "address in use",
@@ -65,7 +65,7 @@ fn gates_of<S: Clock + Wait + Copy + Send + Drop>(
     Ok(gates)
 }
 
-/// The line that says that the server listens, and its limits.
+/// The line that reports that the server listens, and its limits.
 fn ready_line(
     alloc: Global,
     address: SocketAddr,
@@ -83,7 +83,7 @@ fn ready_line(
     Ok(text.into_bytes())
 }
 
-/// What INFO tells of these options, and of a log.
+/// The settings of these options, and of a log, for INFO.
 fn settings_of<S: Clock>(system: &S, options: &RunOptions, log: Option<LogSettings>) -> Settings {
     Settings {
         version: VERSION,
@@ -107,7 +107,7 @@ pub struct Ready<S: Clock + Wait + Drop> {
 /// Listens, and makes what the workers need. Connections wait in the hall from now on.
 ///
 /// # Errors
-/// The status of the program, 1. The cause was said on `errors`.
+/// The status of the program, 1. The cause was reported on `errors`.
 pub fn make_ready<
     W: Sink + Send + Drop + 'static,
     E: Sink,
@@ -165,8 +165,8 @@ pub fn make_ready<
     Ok(Ready { gates, patience })
 }
 
-/// Listens, and serves the connections that come, up to a signal. It gives the status of the program: 1 if something is
-/// amiss, and the cause is said on `errors`; 0 never in practice, since no gate comes to its end.
+/// Listens, and serves the connections that come, up to a signal. Returns the status of the program: 1 if something
+/// failed, and the cause is reported on `errors`; 0 never in practice, since no gate ends.
 pub fn run_server<
     W: Sink + Send + Drop + 'static,
     E: Sink,
@@ -211,7 +211,7 @@ fn hall_of(alloc: Global, room: u64, workers: u64) -> Result<Arc<Hall>, AllocErr
     Ok(Arc::new(alloc, Hall::new(alloc, room, workers)?)?)
 }
 
-/// Says that more files have to be open than may be. It gives the status of the program.
+/// Reports that more files have to be open than may be. Returns the status of the program.
 fn report_few_files<E: Sink>(alloc: Global, workers: u64, errors: &mut E) -> u8
     ensures { result ≡ 1 }
 {
@@ -225,7 +225,7 @@ fn report_few_files<E: Sink>(alloc: Global, workers: u64, errors: &mut E) -> u8
     }
 }
 
-/// Says that the address can't be listened on. It gives the status of the program.
+/// Reports that the address can't be listened on. Returns the status of the program.
 fn report_listening_failed<E: Sink>(
     alloc: Global,
     address: SocketAddr,

@@ -11,7 +11,7 @@ use std::alloc::Global;
 use xs_io::{Sink, Source};
 use xs_script::run_script;
 
-/// Runs a script, says on the writer of errors why it ended before its end, and gives the status of the program.
+/// Runs a script, and reports on `errors` if it ended before its end. Returns the status of the program.
 pub fn run_and_report<R: Source, W: Sink, E: Sink>(
     alloc: Global,
     reader: &mut R,

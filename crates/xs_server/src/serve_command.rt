@@ -20,7 +20,7 @@ use xs_tcp::announcement::Announcement;
 use xs_tcp::serve_gate::TcpGate;
 use xs_work::{Gate, work};
 
-/// How many places the rings of a lane have.
+/// The number of places of the rings of a lane.
 pub const DEPTH: usize = 32;
 
 /// A gate for each worker, with its memory. They share the listener and the announcement of its port.
@@ -45,16 +45,16 @@ fn gates_of<S: Clock + Wait + Copy + Send + Drop>(
     Ok(gates)
 }
 
-/// The line that says on which port the server listens.
+/// The line with the port on which the server listens.
 fn ready_line(alloc: Global, port: u16) -> Vec<u8> {
     let mut line = ToWrite::new(Vec::new(alloc));
     report_ready(&mut line, port);
     line.into_inner()
 }
 
-/// Listens on a port of 127.0.0.1, and serves the connections that come, as many as the options say. The port is
-/// announced on `out` once every thread has started. It gives the status of the program: 0 if the work came to its end,
-/// else 1, and the cause is said on `errors`.
+/// Listens on a port of 127.0.0.1, and serves the connections that come, as many as the options give. The port is
+/// announced on `out` once every thread has started. Returns the status of the program: 0 if the work succeeded, else
+/// 1, and the cause is reported on `errors`.
 pub fn serve_and_report<
     W: Sink + Send + Drop + 'static,
     E: Sink,

@@ -1,23 +1,23 @@
-//! Scripts whose devices give and take a byte at a time and fail at a chosen call.
+//! Scripts whose devices give and take one byte at a time and fail at a chosen call.
 use crate::tests::fakes::{Pieces, Sips};
 use std::alloc::{AllocError, Global};
 use std::test::Fail;
 use xs_io::{FromRead, ToWrite};
 use xs_script::{ScriptFault, run_script};
 
-/// A reader that gives a byte at a time.
+/// A reader that gives one byte at a time.
 fn dribble(bytes: &[u8]) -> FromRead<Pieces<'_>> {
     FromRead::new(Pieces::new(bytes, 1))
 }
 
-/// A writer that takes a byte at a time and fails at one of its calls, counted from 1.
+/// A writer that takes one byte at a time and fails at one of its calls, counted from 1.
 fn failing(alloc: Global, fails_at: u64) -> Result<ToWrite<Sips>, AllocError> {
     let mut sips = Sips::new(alloc, 1)?;
     sips.fails_at = fails_at;
     Ok(ToWrite::new(sips))
 }
 
-/// A writer that takes a byte at a time.
+/// A writer that takes one byte at a time.
 fn sips(alloc: Global) -> Result<ToWrite<Sips>, AllocError> {
     failing(alloc, 0)
 }
@@ -72,7 +72,7 @@ fn tells_of_each_failed_write(rt: HostRuntime) -> Result<(), Fail> {
     Ok(())
 }
 
-/// A writer with room for two replies, made once more if memory was refused.
+/// A writer with room for two replies, made a second time if memory was refused.
 fn roomy(alloc: Global) -> Result<ToWrite<Sips>, AllocError> {
     let mut sips = match Sips::new(alloc, 1) {
         Ok(sips) => sips,
@@ -84,12 +84,12 @@ fn roomy(alloc: Global) -> Result<ToWrite<Sips>, AllocError> {
     Ok(ToWrite::new(sips))
 }
 
-/// What two additions write where memory is refused to the first or to the second of them.
+/// The output of two additions if memory is refused to the first or to the second of them.
 const FIRST_REFUSED: &[u8] = b"-OOM out of memory\r\n$6\r\n1000-0\r\n";
 
 const SECOND_REFUSED: &[u8] = b"$6\r\n1000-0\r\n-OOM out of memory\r\n";
 
-/// Whether these are the bytes that a script of two additions writes, one allocation of which was refused.
+/// Whether these are the bytes that a script of two additions writes if one allocation was refused.
 fn is_told(ran: Result<u64, ScriptFault>, bytes: &[u8]) -> bool {
     match ran {
         Ok(_) => bytes == TWO_IDS || bytes == FIRST_REFUSED || bytes == SECOND_REFUSED,
@@ -98,8 +98,8 @@ fn is_told(ran: Result<u64, ScriptFault>, bytes: &[u8]) -> bool {
     }
 }
 
-// With any one allocation refused, a line is answered OOM or the script ends behind the replies to the lines
-// before, and the same script run again is answered.
+// With any one allocation refused, a line is answered OOM or the script ends after the replies to the lines before, and
+// the same script run again is answered.
 #[test]
 fn a_refused_script_is_run_again(rt: HostRuntime) -> Result<(), Fail> {
     let alloc = rt.alloc();

@@ -1,4 +1,4 @@
--- Requests that are taken, one more at a time, and the replies that come to them.
+-- Requests that are taken, one more at a time, and the replies to them.
 use Rattle.std.proofs.Common.{◌≡◌, ℕ, ◌<◌, ◌≤◌, true, false, List, [], ◌∷◌, ◌++◌, length}
 use Rattle.std.proofs.Common.{ap, refl, sym, ◌∙◌, arith, subst, ◌⊎◌, inl, inr, append_assoc}
 use Rattle.std.proofs.lemmas.List.{append-nil}
@@ -18,27 +18,27 @@ use Rattle.xs_session.specs.Information.{informed}
 use Rattle.xs_session.specs.Answers.{Taken, Asks, Informs, Says, may_ask, IsKept, IsRefused, IsTaken, IsRun, AreRun, AreTaken, asked_of, answers_to}
 use Rattle.xs_session.specs.Places.{has_open, fill_first}
 
--- a command that waits is answered, if the keyspace may be asked
+-- a command that waits is answered, if the connection may use the keyspace
 pub kept-refused : (manner : Manner) (old new : Standing) (words : List (List ℕ)) (reply : Reply) → may_ask manner old words ≡ true → IsKept old words reply new → IsRefused manner (may_ask manner old words) old words reply new
 kept-refused manner old new words reply may kept = subst (λ b. IsRefused manner b old words reply new) (sym may) (by manner) where
   by : (manner : Manner) → IsRefused manner true old words reply new
   by Plain = inr kept
   by (Full wanted) = inr kept
 
--- one more that EXEC has let go
+-- one more that EXEC has released
 run-more : (old mid : Transaction) (run : List Taken) (words : List (List ℕ)) (others : List (List (List ℕ))) (one : Taken) → AreRun old run mid → mid ≡ Released (words ∷ others) → IsRun words one
     → AreRun old (run ++ one ∷ []) (released others)
 run-more old mid [] words others one same is runs = (words, others, sym same ∙ is, runs, refl)
 run-more old mid (first ∷ run) words others one (name, more, split, so, ran) is runs = (name, more, split, so, run-more (released more) mid run words others one ran is runs)
 
--- where nothing is left at the end, nothing is left before the next request
+-- if nothing is left at the end, nothing is left before the next request
 left-clear : (manner : Manner) (mid standing : Standing) (left : Transaction) (requests : List (List (List ℕ))) (more : List Taken) → released_of standing.transaction ≡ []
     → (requests ≡ []) ⊎ (released_of left ≡ []) → AreTaken manner (record mid { transaction = left }) requests more standing → released_of left ≡ []
 left-clear manner mid standing left [] more nothing clear (none, same) = ap (λ (s : Standing). released_of s.transaction) (sym same) ∙ nothing
 left-clear manner mid standing left (request ∷ requests) more nothing (inl never) are = cc
 left-clear manner mid standing left (request ∷ requests) more nothing (inr clear) are = clear
 
--- a request more that has words, where nothing is left that EXEC has let go
+-- one more request that has words, if nothing is left that EXEC has released
 pub taken-more : (manner : Manner) (first standing next : Standing) (requests : List (List (List ℕ))) (taken : List Taken) (words : List (List ℕ)) (one : Taken) → released_of standing.transaction ≡ []
     → AreTaken manner first requests taken standing → 0 < length words → IsTaken manner standing words one next → AreTaken manner first (requests ++ words ∷ []) (taken ++ one ∷ []) next
 taken-more manner first standing next [] taken [] one nothing none some is = absurd (omega arith)
@@ -58,7 +58,7 @@ taken-more manner first standing next ((word ∷ others) ∷ requests) taken wor
   taken-more manner (record mid { transaction = left }) standing next requests more words one nothing are some is,
 )
 
--- a request more of no words
+-- one more request without words
 pub taken-same : (manner : Manner) (first standing : Standing) (requests : List (List (List ℕ))) (taken : List Taken) → released_of standing.transaction ≡ [] → AreTaken manner first requests taken standing
     → AreTaken manner first (requests ++ [] ∷ []) taken standing
 taken-same manner first standing [] taken nothing none = none
@@ -66,7 +66,7 @@ taken-same manner first standing ([] ∷ requests) taken nothing are = taken-sam
 taken-same manner first standing ((word ∷ others) ∷ requests) taken nothing (here, run, more, mid, left, split, is, ran, clear, are) =
     (here, run, more, mid, left, split, is, ran, inr (left-clear manner mid standing left requests more nothing clear are), taken-same manner (record mid { transaction = left }) standing requests more nothing are)
 
--- one more that EXEC has let go, behind the last request
+-- one more that EXEC has released, after the last request
 pub taken-runs : (manner : Manner) (first standing : Standing) (requests : List (List (List ℕ))) (taken : List Taken) (words : List (List ℕ)) (others : List (List (List ℕ))) (one : Taken) → released_of first.transaction ≡ []
     → AreTaken manner first requests taken standing → standing.transaction ≡ Released (words ∷ others) → IsRun words one → AreTaken manner first requests (taken ++ one ∷ []) (record standing { transaction = released others })
 taken-runs manner first standing [] taken words others one nothing (none, same) is runs =
@@ -98,7 +98,7 @@ taken-runs manner first standing ((word ∷ names) ∷ request ∷ requests) tak
   taken-runs manner (record mid { transaction = left }) standing (request ∷ requests) more words others one clear are is runs,
 )
 
--- this asks a command, and its answer is waited for so
+-- this asks a command, whose answer is waited for at this place
 abbrev pub IsAsking : Taken → Command → Place → Type 0
 IsAsking (Asks other) command place = (command ≡ other) × (place ≡ Awaits)
 IsAsking (Informs told) command place = (command ≡ Inspect KeyCount) × (place ≡ AwaitsKeys told)
@@ -137,7 +137,7 @@ answers-ask (Asks other ∷ taken) (reply ∷ got) one command place asking fits
 answers-ask (Informs told ∷ taken) [] one command place asking fits = ap (λ a. AwaitsKeys told ∷ a) (answers-ask taken [] one command place asking (omega arith))
 answers-ask (Informs told ∷ taken) (reply ∷ got) one command place asking fits = ap (λ a. Answer (informed told reply) ∷ a) (answers-ask taken got one command place asking (omega (arith, fits)))
 
--- what is said is there at once
+-- an answer is there at once
 pub answers-say : (taken : List Taken) (got : List Reply) (said : Reply) → answers_to (taken ++ Says said ∷ []) got ≡ answers_to taken got ++ Answer said ∷ []
 answers-say [] got said = refl
 answers-say (Says other ∷ taken) got said = ap (λ a. Answer other ∷ a) (answers-say taken got said)
@@ -165,7 +165,7 @@ open-fits (Asks command ∷ taken) (other ∷ got) waits = omega (arith, open-fi
 open-fits (Informs told ∷ taken) [] waits = omega arith
 open-fits (Informs told ∷ taken) (other ∷ got) waits = omega (arith, open-fits taken got waits)
 
--- where none is waited for, as many replies have come as were asked
+-- if none is waited for, as many replies have come as commands were asked
 pub closed-fits : (taken : List Taken) (got : List Reply) → has_open (answers_to taken got) ≡ false → length (asked_of taken) ≤ length got
 closed-fits [] got closed = omega arith
 closed-fits (Says reply ∷ taken) got closed = closed-fits taken got closed

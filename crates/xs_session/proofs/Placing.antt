@@ -6,7 +6,7 @@ use Rattle.xs_session.specs.declared.places.Place.{Place}
 use Rattle.xs_session.specs.declared.places.Place.TheVariants.{Answer, Awaits, AwaitsKeys}
 use Rattle.xs_session.specs.Places.{is_open, has_open, answered, fill_first, places_of, IsSettled, NoneReady}
 
--- what is begun waits for nothing
+-- an answer that is begun waits for nothing
 pub begun-open : (begun : List Reply) (places : List Place) → has_open (map Answer begun ++ places) ≡ has_open places
 begun-open [] places = refl
 begun-open (reply ∷ begun) places = begun-open begun places
@@ -19,14 +19,14 @@ pub begun-more : (begun : List Reply) (places : List Place) (reply : Reply) → 
 begun-more [] places reply = refl
 begun-more (other ∷ begun) places reply = ap (λ p. Answer other ∷ p) (begun-more begun places reply)
 
--- what isn't waited for and isn't there is no place
+-- if no place is waited for and no answer is there, there is no place
 pub none-left : (places : List Place) → NoneReady places → has_open places ≡ false → places ≡ []
 none-left [] none closed = refl
 none-left (Answer reply ∷ places) none closed = absurd none
 none-left (Awaits ∷ places) none closed = let e : true ≡ false = closed in cc
 none-left (AwaitsKeys told ∷ places) none closed = let e : true ≡ false = closed in cc
 
--- an answer moves from behind to the front
+-- an answer moves to the front
 pub settles : (ready : List Reply) (reply : Reply) (behind : List Place) → places_of (ready ++ reply ∷ []) behind ≡ places_of ready (Answer reply ∷ behind)
 settles ready reply behind = sym (begun-more ready behind reply)
 
@@ -38,14 +38,14 @@ pub places-ready : (ready : List Reply) (reply : Reply) → places_of (ready ++ 
 places-ready [] reply = refl
 places-ready (other ∷ ready) reply = ap (λ p. Answer other ∷ p) (places-ready ready reply)
 
--- the reply has come that the first place behind waits for
+-- the reply has come for which the first place waits
 pub places-filled : (ready : List Reply) (place : Place) (behind : List Place) (reply : Reply) → is_open place ≡ true → places_of (ready ++ answered place reply ∷ []) behind ≡ fill_first reply (places_of ready (place ∷ behind))
 places-filled [] (Answer other) behind reply waits = let e : false ≡ true = waits in cc
 places-filled [] Awaits behind reply waits = refl
 places-filled [] (AwaitsKeys told) behind reply waits = refl
 places-filled (other ∷ ready) place behind reply waits = ap (λ p. Answer other ∷ p) (places-filled ready place behind reply waits)
 
--- settled, something is waited for if anything is behind
+-- in a settled list, something is waited for if anything is in `behind`
 pub open-behind : (ready : List Reply) (behind : List Place) → IsSettled behind → has_open (places_of ready behind) ≡ true → (place : Place) × (others : List Place) × (behind ≡ place ∷ others) × (is_open place ≡ true)
 open-behind [] [] settled waits = let e : false ≡ true = waits in cc
 open-behind [] (Awaits ∷ behind) settled waits = (Awaits, behind, refl, refl)
@@ -78,7 +78,7 @@ none-ready (Answer reply ∷ behind) settled = absurd settled
 some-test : (behind : List Place) (count : ℕ) → count ≡ length behind → 0 < count → not (count == 0) ≡ true
 some-test behind count is some = grind arith
 
--- whether anything is behind
+-- whether anything is in `behind`
 pub is-open : (ready : List Reply) (behind : List Place) (count : ℕ) (result : Bool) → count ≡ length behind → IsSettled behind → result ≡ not (count == 0) → result ≡ has_open (places_of ready behind)
 is-open ready [] count result is settled e = e ∙ ap (λ k. not (k == 0)) is ∙ sym (none-behind ready)
 is-open ready (place ∷ behind) count result is settled e =

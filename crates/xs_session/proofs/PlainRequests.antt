@@ -1,4 +1,5 @@
--- Where the session answers no commands of a connection, nothing waits for EXEC: requests are taken one by one.
+-- If the session doesn't answer the commands of a connection itself, nothing waits for EXEC: requests are taken one by
+-- one.
 use Rattle.std.proofs.Common.{◌≡◌, ℕ, true, false, not, List, [], ◌∷◌, ◌++◌, Ok, Err, sym, ap, ◌∙◌, subst, refl, ◌⊎◌, inl, inr}
 use Rattle.xs_resp.specs.declared.fault.Fault.{Fault}
 use Rattle.xs_resp.specs.declared.fault.Fault.TheVariants.{Memory}
@@ -13,7 +14,7 @@ use Rattle.xs_connection.specs.declared.transaction.Transaction.TheVariants.{Clo
 use Rattle.xs_session.specs.declared.manner.Manner.TheVariants.{Plain}
 use Rattle.xs_session.specs.Answers.{Taken, Asks, Informs, Says, IsTaken, AreRun, AreTaken, goes_at_once}
 
--- a command is asked; or words with a fault are answered, or that memory ran out
+-- a command is asked; or words with a fault are answered, or memory ran out
 abbrev pub IsTakenPlainly : List (List ℕ) → Taken → Type 0
 IsTakenPlainly words (Asks command) = command_of_words words ≡ Ok command
 IsTakenPlainly words (Informs told) = ⊥

@@ -1,4 +1,4 @@
--- Bytes are requests in one way, up to where no request begins.
+-- Bytes are requests in only one way, up to where no request begins.
 use Rattle.std.proofs.Common.{◌≡◌, ℕ, List, [], ◌∷◌, ◌++◌, sym, ap, ◌∙◌, refl, append_assoc}
 use Rattle.std.proofs.lemmas.List.{append_cancel_left}
 use Rattle.xs_resp.specs.declared.read_fault.ProtocolFault.{ProtocolFault}

@@ -63,7 +63,7 @@ is-next held after bytes words is are k =
 wrong-held : (old : Held) (bytes : List ℕ) (fault : ReadFault) (new : Held) (wrong : ProtocolFault) → old ≡ Ok bytes → request bytes ≡ Err wrong → Ready old (Err fault) new → new ≡ Err wrong
 wrong-held old bytes fault new wrong is fails ready = (subst (λ o. ReadyOf bytes o (Err fault) new) fails (subst (λ h. Ready h (Err fault) new) is ready)).1
 
--- no whole request is held
+-- no complete request is held
 pub waits-of : (old new : Held) → Ready old (Ok false) new → (bytes : List ℕ) × (new ≡ Ok bytes) × IsOpen bytes
 waits-of (Ok bytes) new ready =
     let n = next-none (Ok bytes) bytes new refl (ready-none (Ok bytes) new ready) in
@@ -109,12 +109,12 @@ much-wrong : (manner : Manner) (standing : Standing) (rest : List ℕ) (held : H
 much-wrong Plain standing rest held stranger is much = cc
 much-wrong (Full wanted) standing rest held stranger is much = inr (is, not-true standing.is_allowed stranger, much)
 
--- a connection that has said nothing has nothing to ask
+-- a new connection has nothing to ask
 first-none : (manner : Manner) (first : Standing) → IsFirst manner first → released_of first.transaction ≡ []
 first-none Plain first is = ap released_of is
 first-none (Full wanted) first is = ap (λ (s : Standing). released_of s.transaction) is
 
--- a look for a whole request changes nothing, but where a fault stands
+-- a look for a complete request changes nothing, unless there is a fault
 pub ready-same : (old new : Held) (whole : Bool) → Ready old (Ok whole) new → new ≡ old
 ready-same old new true ready = (ready-front old new ready).1
 ready-same (Ok bytes) new false ready = (next-none (Ok bytes) bytes new refl (ready-none (Ok bytes) new ready)).1
@@ -128,7 +128,7 @@ module _ (manner : Manner) (standing : Standing) (read : List ℕ) (asked : List
   answers-now : (held : Held) (places : List Place) (owed : List ℕ) (s : IsAfter manner standing read asked got sent None held places owed) → answers_to s.taken got ≡ map Answer s.begun ++ places
   answers-now held places owed s = ap (λ t. answers_to t got) (sym (append-nil s.taken)) ∙ s.answers
 
-  -- one more command is asked: that of the next request, or one that EXEC has let go
+  -- one more command is asked: that of the next request, or one that EXEC has released
   asks-more : (next : Standing) (held after : Held) (places : List Place) (owed : List ℕ) (one : Taken) (command : Command) (place : Place) → IsAsking one command place → (s : IsAfter manner standing read asked got sent None held places owed)
       → (requests : List (List (List ℕ))) (front rest : List ℕ) → read ≡ front ++ rest → SpellsAll front requests → AreTaken manner s.first requests (s.taken ++ one ∷ []) next → after ≡ Ok rest
       → IsAfter manner next read (asked ++ command ∷ []) got sent (ending_of command) after (places ++ place ∷ []) owed
@@ -183,7 +183,7 @@ module _ (manner : Manner) (standing : Standing) (read : List ℕ) (asked : List
     sent_is = s.sent_is;
   }
 
-  -- what a request asks is asked
+  -- the command of a request is asked
   pub after-asks : (next : Standing) (held after : Held) (places : List Place) (owed : List ℕ) (words : List (List ℕ)) (one : Taken) (command : Command) (place : Place) → IsAsking one command place → (s : IsAfter manner standing read asked got sent None held places owed)
       → IsNext s.rest words after → released_of standing.transaction ≡ [] → 0 < length words → IsTaken manner standing words one next
       → IsAfter manner next read (asked ++ command ∷ []) got sent (ending_of command) after (places ++ place ∷ []) owed
@@ -203,7 +203,7 @@ module _ (manner : Manner) (standing : Standing) (read : List ℕ) (asked : List
       (subst (λ (w : List (List ℕ)). SpellsAll (s.front ++ t.first) (s.requests ++ w ∷ [])) n.words_are t.spelled)
       (taken-more manner s.first standing next s.requests s.taken words (Says reply) nothing s.are_taken some is) n.left
 
-  -- a request of no words
+  -- a request without words
   after-skips : (held after : Held) (places : List Place) (owed : List ℕ) (words : List (List ℕ)) → (s : IsAfter manner standing read asked got sent None held places owed)
       → IsNext s.rest words after → released_of standing.transaction ≡ [] → words ≡ [] → IsAfter manner standing read asked got sent None after places owed
   after-skips held after places owed words s n nothing none =
@@ -226,7 +226,7 @@ module _ (manner : Manner) (standing : Standing) (read : List ℕ) (asked : List
         sent_is = s.sent_is;
       }
 
-  -- what EXEC has let go is asked
+  -- a command that EXEC has released is asked
   after-runs : (held : Held) (places : List Place) (owed : List ℕ) (words : List (List ℕ)) (others : List (List (List ℕ))) (command : Command) → (s : IsAfter manner standing read asked got sent None held places owed)
       → standing.transaction ≡ Released (words ∷ others) → IsRun words (Asks command)
       → IsAfter manner (record standing { transaction = released others }) read (asked ++ command ∷ []) got sent (ending_of command) held (places ++ Awaits ∷ []) owed
@@ -242,7 +242,7 @@ module _ (manner : Manner) (standing : Standing) (read : List ℕ) (asked : List
       says-more (record standing { transaction = released others }) held held places owed reply s s.requests s.front s.rest s.read_is s.spelled
       (taken-runs manner s.first standing s.requests s.taken words others (Says reply) (first-none manner s.first s.is_first) s.are_taken is runs) s.goes.0
 
-  -- what is held isn't a request, or too much
+  -- what is held isn't a request, or is too much
   after-refused : (held after : Held) (places : List Place) (owed : List ℕ) → (s : IsAfter manner standing read asked got sent None held places owed)
       → IsWrong manner standing s.rest after → IsAfter manner standing read asked got sent (Some ending.Protocol) after (places ++ Answer (Error Protocol) ∷ []) owed
   after-refused held after places owed s wrong = record {
@@ -392,7 +392,7 @@ module _ (manner : Manner) (standing : Standing) (read : List ℕ) (asked : List
     sent_is = texts-more s.begun reply ∙ ap (λ t. t ++ text reply) s.sent_is ∙ append_assoc sent owed (text reply) ∙ ap (λ o. sent ++ o) (sym more);
   }
 
-  -- the front of what is owed is sent
+  -- the front of the unsent bytes is sent
   pub after-sent : (ended : Option Ending) (held : Held) (places : List Place) (owed front behind : List ℕ) → IsAfter manner standing read asked got sent ended held places owed
       → owed ≡ front ++ behind → IsAfter manner standing read asked got (sent ++ front) ended held places behind
   after-sent ended held places owed front behind s is = record {
@@ -436,7 +436,7 @@ module _ (manner : Manner) (standing : Standing) (read : List ℕ) (asked : List
         sent_is = s.sent_is;
       })
 
--- as many replies have come as were asked, where none is waited for
+-- as many replies have come as commands were asked, if none is waited for
 pub after-even : (manner : Manner) (standing : Standing) (read : List ℕ) (asked : List Command) (got : List Reply) (sent : List ℕ) (ended : Option Ending) (held : Held) (places : List Place) (owed : List ℕ)
     → IsAfter manner standing read asked got sent ended held places owed → has_open places ≡ false → length got ≡ length asked
 after-even manner standing read asked got sent ended held places owed s closed =
@@ -472,10 +472,10 @@ none-open false = tt
 pub session-new : (manner : Manner) (bytes : List ℕ) (session : Session) → session.ended ≡ None → session.requests ≡ Ok bytes → session.places ≡ [] → bytes_left session.owed ≡ [] → IsFirst manner session.standing → SessionIsAfter manner bytes [] [] [] session
 session-new manner bytes session going is places owed new = (after-new manner session.standing bytes session.ended session.requests session.places (bytes_left session.owed) going is places owed new, none-open session.alone)
 
--- ---- turns of a whole session
+-- ---- turns of a complete session
 
 module _ (manner : Manner) (read : List ℕ) (asked : List Command) (got : List Reply) (sent : List ℕ) where
-  -- where no answer is left to come, what is waiting is alone or not
+  -- if no answer is waited for, what waits is alone or not
   pub session-goes : (old new : Session) → SessionIsAfter manner read asked got sent old → new ≡ (let x : Session = record old { alone = false } in x) → (old.alone ≡ true → IsGathered old)
       → SessionIsAfter manner read asked got sent new
   session-goes old new s is settled =
@@ -487,7 +487,7 @@ module _ (manner : Manner) (read : List ℕ) (asked : List Command) (got : List 
       let even = after-even manner session.standing read asked got sent session.ended session.requests session.places (bytes_left session.owed) s.0 closed in
       omega (arith, even)
 
-  -- the call of the request at the front is asked, or has to wait
+  -- the command of the request at the front is asked, or has to wait
   pub session-asked : (old new : Session) (command : Command) (one : Taken) (place : Place) (goes : Bool) (words : List (List ℕ)) → IsAsking one command place → old.ended ≡ None → old.alone ≡ false → words ≡ front_of old.requests → released_of old.standing.transaction ≡ [] → 0 < length words
       → IsTaken manner old.standing words one old.standing → new.owed ≡ old.owed → AsksOrWaits old command place goes new → SessionIsAfter manner read asked got sent old
       → SessionIsAfter manner read (asked ++ asked_if goes command) got sent new
@@ -513,7 +513,7 @@ module _ (manner : Manner) (read : List ℕ) (asked : List Command) (got : List 
       subst (λ (t : Turn). SessionIsAfter manner read (asked ++ asked_in t) got sent new) (sym goes)
       (subst (λ (n : Session). SessionIsAfter manner read (asked ++ []) got sent n) (sym after) (said, open-same old.alone (length got) asked s.1))
 
-  -- what EXEC has let go is asked, or has to wait
+  -- a command that EXEC has released is asked, or has to wait
   pub session-released : (old new : Session) (command : Command) (turn : Turn) → old.ended ≡ None → old.alone ≡ false → new.owed ≡ old.owed → ReleasesOrWaits old command turn new → SessionIsAfter manner read asked got sent old
       → SessionIsAfter manner read (asked ++ asked_in turn) got sent new
   session-released old new command turn going several owed (inl asks) s =

@@ -1,4 +1,4 @@
--- What tests of emptiness tell.
+-- What tests of emptiness return.
 use Rattle.std.proofs.Common.{◌≡◌, ℕ, ◌<◌, ◌==◌, Bool, true, false, List, [], ◌∷◌, ◌++◌, length, Result, Ok, Err}
 use Rattle.std.proofs.Common.{sym, ◌∙◌, refl, arith}
 use Rattle.std.specs.Prelude.{IfOk}
@@ -13,7 +13,7 @@ pub empty-some : {A : Type 0} (items : List A) (empty : Bool) → empty ≡ (len
 empty-some [] empty is h = let e : true ≡ false = sym is ∙ h in cc
 empty-some (item ∷ items) empty is h = omega arith
 
--- nothing is left, so nothing is behind the front
+-- nothing is left, so nothing follows the front
 pub none-behind : (piece behind : List ℕ) → piece ++ behind ≡ [] → behind ≡ []
 none-behind [] behind none = none
 none-behind (b ∷ piece) behind none = cc

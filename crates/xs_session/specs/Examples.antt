@@ -1,6 +1,6 @@
--- What becomes of requests, by examples: their words are commands, or have a fault, as docs/COMMANDS.md tells it; the
--- texts are those of the RESP protocol specification (version 2). That a request may find no memory, and that some
--- commands are asked alone, are this server's own rules.
+-- How requests are taken, by examples: their words are commands, or have a fault, by docs/COMMANDS.md; the texts are
+-- those of the RESP protocol specification (version 2). That memory can run out for a request, and that some commands
+-- are asked alone, are this server's own rules.
 use Rattle.std.specs.Prelude.{◌≡◌, ℕ, Bool, true, false, List, [], ◌∷◌, codes, None, Result, Ok}
 use Rattle.std.specs.Result.{result_map_both}
 use Rattle.xs_stream.specs.declared.add.AddId.TheVariants.{Exact}
@@ -31,18 +31,18 @@ len = command.Len (codes "k")
 abbrev pub add : Command
 add = adds None (Exact (at 1 1))
 
--- a connection of which nothing is asked
+-- a new connection
 abbrev pub anyone : Standing
 anyone = record { id = 1; name = []; is_allowed = true; transaction = Closed }
 
--- the same where all commands are those of the keyspace
+-- the same if only commands of the keyspace are known
 abbrev pub IsSaidTo : List (List ℕ) → Taken → Type 0
 IsSaidTo words taken = IsTaken Plain anyone words taken anyone
 
 abbrev pub AreSaidTo : List (List (List ℕ)) → List Taken → Type 0
 AreSaidTo requests taken = AreTaken Plain anyone requests taken anyone
 
--- what one request becomes
+-- how one request is taken
 pub record Takings : Type 0 where
   pub a_command : IsSaidTo (line (codes "PING")) (Asks ping)
   pub an_addition : IsSaidTo (line (codes "XADD k 1-1 f v")) (Asks add)
@@ -56,7 +56,7 @@ pub record Takings : Type 0 where
   pub no_memory_for_a_command : IsSaidTo (line (codes "XADD k 1-1 f v")) (Says (Error Memory))
   pub no_memory_to_find_a_fault : IsSaidTo (line (codes "GET k")) (Says (Error Memory))
 
--- what requests become, one after the other
+-- how requests are taken, one after the other
 pub record TakenInOrder : Type 0 where
   pub none : AreSaidTo [] []
   pub three :
@@ -72,7 +72,7 @@ pub record TakenInOrder : Type 0 where
   pub no_other_order :
       AreSaidTo (line (codes "PING") ∷ line (codes "XLEN k") ∷ []) (Asks len ∷ Asks ping ∷ []) → ⊥
 
--- what is asked, and what each request is answered as the replies come
+-- what is asked, and the answers as the replies come
 pub record Answering : Type 0 where
   pub nothing_asked : asked_of [] ≡ []
   pub asked : asked_of (Says (Error Memory) ∷ Asks ping ∷ Says (Error UnknownCommand) ∷ Asks len ∷ []) ≡ ping ∷ len ∷ []
@@ -98,7 +98,7 @@ pub record Answering : Type 0 where
 abbrev pub asked_alone : List ℕ → Result Bool Fault
 asked_alone text = result_map_both is_alone (λ fault. fault) (command_of_words (line text))
 
--- those whose replies may be of any size, or long in coming
+-- those whose replies may have any size, or may take long
 pub record Alone : Type 0 where
   pub a_ping : asked_alone (codes "PING hello") ≡ Ok false
   pub a_quit : asked_alone (codes "QUIT") ≡ Ok false

@@ -14,7 +14,7 @@ use Rattle.xs_session.specs.Examples.{anyone}
 use Rattle.xs_session.specs.ExamplesManners.{at, secret, who}
 use Rattle.xs_session.specs.Information.{asks_keys, informed}
 
--- whether a line asks how many keys there are
+-- whether a line asks the number of keys
 abbrev pub asks : List ℕ → Bool
 asks text = asks_keys (at Closed) (line text)
 
@@ -42,7 +42,7 @@ pub record Lines : Type 0 where
   pub twelve_keys : tells 12 (codes "# Keyspace^db0:keys=12,expires=0,avg_ttl=0^")
   pub no_memory : informed (codes "# Keyspace") (Error Memory) ≡ Error Memory
 
--- what becomes of it
+-- how it is taken
 pub record Informing : Type 0 where
   pub it_asks : IsTaken (Full None) (at Closed) (line (codes "INFO")) (Informs (codes "loading:0")) (at Closed)
   pub by_a_call : asked_of (Informs (codes "loading:0") ∷ []) ≡ command.Inspect inspection.KeyCount ∷ []

@@ -1,4 +1,4 @@
--- What requests become where the session answers the commands of a connection itself, by examples: as a real Redis 7.0
+-- How requests are taken if the session answers the commands of a connection itself, by examples: as a real Redis 7.0
 -- answers them.
 use Rattle.std.specs.Prelude.{ℕ, Bool, true, false, List, [], ◌∷◌, codes, Option, Some, None}
 use Rattle.xs_resp.specs.declared.fault.Fault.TheVariants.{UnknownCommand, Arity, Memory}
@@ -13,7 +13,7 @@ use Rattle.xs_session.specs.declared.manner.Manner.TheVariants.{Plain, Full}
 use Rattle.xs_session.specs.Answers.{Taken, Asks, Says, IsTaken, AreRun, AreTaken}
 use Rattle.xs_session.specs.Examples.{ping, len, add, anyone}
 
--- the password secret is wanted, or none
+-- the password `secret` is required, or none
 abbrev pub secret : Option (List ℕ)
 secret = Some (codes "secret")
 
@@ -21,7 +21,7 @@ secret = Some (codes "secret")
 abbrev pub who : Bool → Standing
 who is_allowed = record { id = 1; name = []; is_allowed = is_allowed; transaction = Closed }
 
--- what becomes of a line of words, and whether the connection may ask then
+-- how a line of words is taken, and whether the connection may send commands then
 abbrev pub Becomes : Option (List ℕ) → Bool → List ℕ → Taken → Bool → Type 0
 Becomes wanted before text taken after = IsTaken (Full wanted) (who before) (line text) taken (who after)
 
@@ -56,14 +56,14 @@ pub record Guarded : Type 0 where
       AreTaken (Full secret) (who false) (line (codes "AUTH secret") ∷ line (codes "XADD k 1-1 f v") ∷ [])
       (Says (Simple Okay) ∷ Asks add ∷ []) (who true)
 
--- a connection that may ask, with a transaction
+-- a connection that may send commands, with a transaction
 abbrev pub at : Transaction → Standing
 at transaction = record { id = 1; name = []; is_allowed = true; transaction = transaction }
 
 abbrev pub waits : Taken
 waits = Says (Simple Queued)
 
--- so these lines are taken, and leave nothing waiting
+-- these lines are taken so, and nothing waits after them
 abbrev pub AreFreely : List (List (List ℕ)) → List Taken → Type 0
 AreFreely requests taken = AreTaken (Full None) (at Closed) requests taken (at Closed)
 

@@ -32,11 +32,11 @@ bytes_of_quit = wire (codes "*1^$4^QUIT^")
 abbrev pub bytes_of_add : List ℕ
 bytes_of_add = wire (codes "*5^$4^XADD^$1^k^$3^1-1^$1^f^$1^v^")
 
--- of no known command
+-- a request with an unknown command
 abbrev pub bytes_of_get : List ℕ
 bytes_of_get = wire (codes "*2^$3^GET^$1^k^")
 
--- the same where all commands are those of the keyspace
+-- the same if only commands of the keyspace are known
 abbrev pub IsPlainAfter :
     List ℕ → List Command → List Reply → List ℕ → Option Ending → Held → List Place → List ℕ → Type 0
 IsPlainAfter read asked got sent ended held places owed =
@@ -71,12 +71,12 @@ pub record Sessions : Type 0 where
       IsPlainAfter (bytes_of_ping ++ codes "x") (ping ∷ []) (Simple Pong ∷ []) (wire (codes "+PONG^-ERR Protocol error^"))
       (Some ending.Protocol) (Err Shape) [] []
 
--- these bytes can't have been sent, whatever has a place or is owed
+-- these bytes can't have been sent, whatever the places and the unsent bytes are
 abbrev pub IsNeverSent : List ℕ → List Command → List Reply → List ℕ → Option Ending → Held → Type 0
 IsNeverSent read asked got sent ended held =
     (places : List Place) (owed : List ℕ) → IsPlainAfter read asked got sent ended held places owed → ⊥
 
--- these commands can't have been asked, whatever has happened besides
+-- these commands can't have been asked, whatever else has happened
 abbrev pub IsNeverAsked : List ℕ → List Command → Option Ending → Held → Type 0
 IsNeverAsked read asked ended held =
     (got : List Reply) (sent : List ℕ) (places : List Place) (owed : List ℕ) →

@@ -33,7 +33,7 @@ pub record Turns : Type 0 where
   pub no_wait_behind_a_fault : Waits None (Ok (codes "x")) → ⊥
   pub no_wait_once_ended : Waits (Some ending.Quit) (Ok []) → ⊥
 
--- whatever sessions these are
+-- for all sessions
 pub record TurnsOfSessions : Type 0 where
   pub begins_with_nothing :
       (manner : Manner) (session : Session) → IsNew manner session → SessionIsAfter manner [] [] [] [] session

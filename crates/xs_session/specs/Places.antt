@@ -1,4 +1,4 @@
--- The places of answers, in the order of their requests: those that are there, and those that are waited for.
+-- The places of answers, in the order of their requests: answers that are there, and answers that are waited for.
 use Rattle.std.specs.Prelude.{Bool, true, false, List, [], ◌∷◌, ◌++◌, map}
 use Rattle.std.specs.List.{list_any}
 use Rattle.xs_resp.specs.declared.reply.Reply.{Reply}
@@ -14,28 +14,28 @@ is_open _ = true
 abbrev pub has_open : List Place → Bool
 has_open places = list_any is_open places
 
--- the answer at a place, once a reply that it waits for has come
+-- the answer at a place, after the reply for which it waits has come
 abbrev pub answered : Place → Reply → Reply
 answered (Answer other) reply = other
 answered Awaits reply = reply
 answered (AwaitsKeys told) reply = informed told reply
 
--- the reply has come that the first place waits for
+-- the reply has come for which the first place waits
 abbrev pub fill_first : Reply → List Place → List Place
 fill_first reply [] = []
 fill_first reply (Answer other ∷ places) = Answer other ∷ fill_first reply places
 fill_first reply (place ∷ places) = Answer (answered place reply) ∷ places
 
--- replies that are there, and behind them those that wait for the replies before them
+-- replies that are there, and after them the places that wait for the replies before them
 abbrev pub places_of : List Reply → List Place → List Place
 places_of ready behind = map Answer ready ++ behind
 
--- nothing behind is ready
+-- nothing in `behind` is ready
 abbrev pub IsSettled : List Place → Type 0
 IsSettled (Answer reply ∷ behind) = ⊥
 IsSettled _ = Unit {0}
 
--- none is there
+-- no answer is there
 abbrev pub NoneReady : List Place → Type 0
 NoneReady (Answer reply ∷ places) = ⊥
 NoneReady _ = Unit {0}

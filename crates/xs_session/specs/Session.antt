@@ -36,13 +36,13 @@ use Rattle.xs_session.specs.Answers.{is_stranger, Taken, Asks, Says, AreTaken, M
 abbrev pub texts : List Reply → List ℕ
 texts replies = flat_map text replies
 
--- the protocol error has its place behind the requests
+-- the place of the protocol error is after the requests
 abbrev pub refusal : Option Ending → List Taken
 refusal (Some ending.Protocol) = Says (Error Protocol) ∷ []
 refusal _ = []
 
--- why a protocol error ends a session: a fault stands in the bytes that are left; or a client that hasn't given the
--- password has sent more than it may
+-- why a protocol error ends a session: the bytes that are left have a fault; or a client that hasn't given the password
+-- has sent more than it may
 abbrev pub IsFault : List ℕ → Held → Type 0
 IsFault rest held = (wrong : ProtocolFault) × FaultIn rest wrong × (held ≡ Err wrong)
 
@@ -51,8 +51,8 @@ IsWrong Plain standing rest held = IsFault rest held
 IsWrong (Full wanted) standing rest held =
     IsFault rest held ⊎ ((held ≡ Ok rest) × (standing.is_allowed ≡ false) × (is_too_much held ≡ true))
 
--- whether further requests are taken from the rest of what was read, which is held: not behind a QUIT, which is the
--- last request, nor from a fault on
+-- whether further requests are taken from the rest of what was read, which is held: none after a QUIT, which is the
+-- last request, and none from a fault on
 abbrev pub Goes : Manner → Standing → Option Ending → List Taken → List ℕ → Held → Type 0
 Goes manner standing None taken rest held = (held ≡ Ok rest) × (has_quit taken ≡ false)
 Goes manner standing (Some ending.Quit) taken rest held =
@@ -61,14 +61,14 @@ Goes manner standing (Some ending.Protocol) taken rest held =
     (has_quit taken ≡ false) × IsWrong manner standing rest held
 Goes manner standing _ taken rest held = ⊥
 
--- a connection that has said nothing, and is allowed to ask if no password is wanted
+-- a new connection, which may send commands if no password is required
 abbrev pub IsFirst : Manner → Standing → Type 0
 IsFirst Plain standing = standing.transaction ≡ Closed
 IsFirst (Full wanted) standing = standing ≡ as_new wanted standing
 
--- What was read begins with requests, each of which is taken; asked is what they ask, in their order. Of the answers,
--- in the order of the requests, the first ones are begun, as far as all are there: sent is their texts, but for what is
--- owed of them. The others have places, some of which wait for their reply.
+-- What was read begins with requests, each of which is taken; `asked` is their commands, in their order. Of the
+-- answers, in the order of the requests, the first ones are begun, as far as all are there: their texts are the sent
+-- bytes and then the unsent ones. The others have places, some of which wait for their reply.
 pub record IsAfter
     (manner : Manner) (standing : Standing) (read : List ℕ) (asked : List Command) (got : List Reply) (sent : List ℕ)
     (ended : Option Ending) (held : Held) (places : List Place) (owed : List ℕ) : Type 0 where
@@ -88,14 +88,14 @@ pub record IsAfter
   pub answers : answers_to (taken ++ refusal ended) got ≡ map Answer begun ++ places
   pub sent_is : texts begun ≡ sent ++ owed
 
--- so is a session; and what it asks alone is open alone
+-- so is a session; and a command that is asked alone is open alone
 abbrev pub SessionIsAfter : Manner → List ℕ → List Command → List Reply → List ℕ → Session → Type 0
 SessionIsAfter manner read asked got sent session =
     IsAfter manner session.standing read asked got sent session.ended session.requests session.places
     (bytes_left session.owed)
     × MayBeOpen session.alone (drop (length got) asked)
 
--- every answer is begun, and all that is owed is gathered
+-- every answer is begun, and all unsent bytes are gathered
 abbrev pub IsGathered : Session → Type 0
 IsGathered session = (session.places ≡ []) × (session.owed.behind ≡ [])
 
@@ -113,13 +113,13 @@ pub record IsNew (manner : Manner) (session : Session) : Type 0 where
   pub alone : session.alone ≡ false
   pub first : IsFirst manner session.standing
 
--- what a turn asks
+-- the command that a turn asks
 abbrev pub asked_in : Turn → List Command
 asked_in (turn.Asks call) = call.command ∷ []
 asked_in _ = []
 
--- the request at the front is taken, whose command is asked, and its reply or its answer is waited for here; alone only
--- once every answer is gathered
+-- the request at the front is taken, its command is asked, and the answer is waited for at this place; a command is
+-- asked alone only once every answer is gathered
 pub record AsksFront (old : Session) (command : Command) (place : Place) (new : Session) : Type 0 where
   pub skips : Skips old.requests new.requests
   pub places : new.places ≡ old.places ++ place ∷ []
@@ -128,7 +128,7 @@ pub record AsksFront (old : Session) (command : Command) (place : Place) (new : 
   pub gathered : is_alone command ≡ true → IsGathered old
   pub standing : new.standing ≡ old.standing
 
--- the next command that EXEC has let go was asked; alone only once every answer is gathered
+-- the next command that EXEC has released was asked; alone only once every answer is gathered
 pub record AsksReleased (old : Session) (command : Command) (result : Turn) (new : Session) : Type 0 where
   pub call : Call
   pub asks : result ≡ turn.Asks call
@@ -154,24 +154,25 @@ abbrev pub ReleasesOrWaits : Session → Command → Turn → Session → Type 0
 ReleasesOrWaits old command result new =
     AsksReleased old command result new ⊎ ((result ≡ turn.Full) × (new ≡ record old { alone = true }))
 
--- a request was taken, or has to wait; what is asked is formed, and has its words if they are wanted
+-- a request was taken, or has to wait; what is asked is well formed, and has its words if they are needed
 abbrev pub Takes : Bool → Turn → Type 0
 Takes wants_words turn.Goes = Unit {0}
 Takes wants_words turn.Full = Unit {0}
 Takes wants_words (turn.Asks call) = IsFormed call × (wants_words ≡ true → is_some call.words ≡ true)
 Takes wants_words _ = ⊥
 
--- a turn takes one place at most: of a call that is asked, whose answer is waited for; else of an answer, which is there
+-- a turn takes at most one place: of a call that is asked, whose answer is waited for; else of an answer, which is
+-- there
 abbrev pub TakesPlace : Turn → List Place → List Place → Type 0
 TakesPlace (turn.Asks call) old new = (place : Place) × (is_open place ≡ true) × (new ≡ old ++ place ∷ [])
 TakesPlace _ old new = (new ≡ old) ⊎ ((reply : Reply) × (new ≡ old ++ Answer reply ∷ []))
 
--- what was taken, or isn't whole yet, is no more than a client may send before it has given the password
+-- what was taken, or isn't complete yet, is no more than a client may send before it has given the password
 abbrev pub IsHeard : Manner → Standing → Held → Turn → Type 0
 IsHeard manner standing held turn.Goes = is_stranger manner standing ≡ true → is_too_much held ≡ false
 IsHeard manner standing held turn.Waits = is_stranger manner standing ≡ true → is_too_much held ≡ false
 IsHeard manner standing held _ = Unit {0}
 
--- it waits for bytes: no whole request is held, and no fault
+-- it waits for bytes: no complete request is held, and no fault
 abbrev pub Waits : Option Ending → Held → Type 0
 Waits ended held = (ended ≡ None) × ((bytes : List ℕ) × (held ≡ Ok bytes) × IsOpen bytes)

@@ -13,8 +13,7 @@ are_short (word ∷ words) = nat_le (length word) 16384 && are_short words
 abbrev pub is_small : List (List ℕ) → Bool
 is_small words = nat_le (length words) 10 && are_short words
 
--- more than it may send: a request that isn't small; or so many bytes, none of which is whole, that no small one has
--- as many
+-- more than it may send: a request that isn't small; or, without a complete request, more bytes than any small one has
 abbrev pub is_too_much_of : Outcome Found → List ℕ → Bool
 is_too_much_of (Ok (Some found)) bytes = not (is_small found.words)
 is_too_much_of (Ok None) bytes = nat_lt 163945 (length bytes)

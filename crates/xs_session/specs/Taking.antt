@@ -1,4 +1,4 @@
--- What becomes of a request, as the session sees it.
+-- How the session takes a request.
 use Rattle.std.specs.Prelude.{◌≡◌, ℕ, Bool, true, List, Err, is_some}
 use Rattle.xs_resp.specs.declared.fault.Fault.TheVariants.{UnknownCommand}
 use Rattle.xs_command.specs.Read.{command_of_words}
@@ -22,12 +22,12 @@ IsTakingOf manner old words (taking.Asks call) new = IsTaken manner old words (A
 IsTakingOf manner old words (taking.Says reply) new = IsTaken manner old words (Says reply) new
 IsTakingOf manner old words taking.Info new = IsUnknown manner old words × (new ≡ old)
 
--- what is asked is formed
+-- what is asked is well formed
 abbrev pub IsFormedTaking : Taking → Type 0
 IsFormedTaking (taking.Asks call) = IsFormed call
 IsFormedTaking _ = Unit {0}
 
--- and has its words if they are wanted
+-- and has its words if they are needed
 abbrev pub HasWantedWords : Bool → Taking → Type 0
 HasWantedWords wants_words (taking.Asks call) = wants_words ≡ true → is_some call.words ≡ true
 HasWantedWords wants_words _ = Unit {0}

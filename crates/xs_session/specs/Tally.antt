@@ -1,4 +1,4 @@
--- What replies are counted as.
+-- How replies are counted.
 use Rattle.std.specs.Prelude.{Bool, true, false}
 use Rattle.xs_resp.specs.declared.reply.Reply.{Reply}
 use Rattle.xs_resp.specs.declared.reply.Reply.TheVariants.{Error, ErrorText}

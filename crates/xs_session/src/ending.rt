@@ -9,7 +9,7 @@ pub enum Ending {
     Cut,
     /// A QUIT was executed.
     Quit,
-    /// The bytes aren't a request, or more than a client may send before it has given the password. The protocol error
-    /// was written.
+    /// The bytes aren't a request, or are more than a client may send before it has given the password. The protocol
+    /// error was written.
     Protocol,
 }

@@ -1,4 +1,4 @@
-//! Examples of what the definitions say, with values from outside.
+//! Examples of the definitions, with expected values from outside.
 #![tactic(auto, unfolding(xs_command::proofs::Computing::example_functions, xs_connection::proofs::Computing::example_functions))]
 
 ghost use Rattle.xs_session.specs.Examples.{Takings, TakenInOrder, Answering, Alone, Open};
@@ -8,32 +8,32 @@ ghost use Rattle.xs_session.specs.ExamplesPlaces.{Places};
 ghost use Rattle.xs_session.specs.ExamplesSessions.{Sessions, NoSessions};
 ghost use Rattle.xs_session.specs.ExamplesTurns.{Turns, TurnsOfSessions};
 
-/// What one request becomes.
+/// How one request is taken.
 pub fn takings()
     ensures { Takings }
 {}
 
-/// What requests become, one after the other.
+/// How requests are taken, one after the other.
 pub fn taken_in_order()
     ensures { TakenInOrder }
 {}
 
-/// What requests become where no password is wanted.
+/// How requests are taken if no password is required.
 pub fn free()
     ensures { Free }
 {}
 
-/// What requests become where one is wanted.
+/// How requests are taken if one is required.
 pub fn guarded()
     ensures { Guarded }
 {}
 
-/// What requests become between MULTI and EXEC.
+/// How requests are taken between MULTI and EXEC.
 pub fn transactions()
     ensures { Transactions }
 {}
 
-/// Which words ask how many keys there are.
+/// Which words ask the number of keys.
 pub fn sections()
     ensures { Sections }
 {}
@@ -43,12 +43,12 @@ pub fn lines()
     ensures { Lines }
 {}
 
-/// What becomes of INFO.
+/// How INFO is taken.
 pub fn informing()
     ensures { Informing }
 {}
 
-/// What is asked, and what each request is answered as the replies come.
+/// What is asked, and the answers as the replies come.
 pub fn answering()
     ensures { Answering }
 {}

@@ -1,4 +1,4 @@
-//! INFO, whose section of the keyspace is the reply to a call.
+//! INFO, whose section of the keyspace comes from the reply to a call.
 ghost use Rattle.std.specs.Prelude.{◌≡◌, ◌++◌, ◌∷◌, IfOk};
 ghost use Rattle.xs_resp.specs.declared.reply.Reply.{Reply};
 ghost use Rattle.xs_session.specs.Information.{is_keyspace_name, names_keyspace, is_info, asks_keys, keyspace_line};
@@ -12,14 +12,14 @@ use xs_command::{Word, Words};
 use xs_connection::Standing;
 use xs_resp::Reply;
 
-/// Whether the section of the keyspace is one of those that this name stands for.
+/// Whether the section of the keyspace is one of those that this name selects.
 fn is_keyspace_name(word: &Word<'_>) -> bool
     ensures { result ≡ is_keyspace_name word.now }
 {
     word.is(b"keyspace") || word.is(b"default") || word.is(b"all") || word.is(b"everything")
 }
 
-/// Whether these names of sections ask for that of the keyspace. All sections are told if none is named.
+/// Whether these names of sections select that of the keyspace. Without names all sections are selected.
 #[tactic(auto, unfolding(xs_command::specs::Words::word))]
 pub fn names_keyspace(names: &Words<'_>) -> bool
     ensures { result ≡ names_keyspace names.now }
@@ -48,7 +48,7 @@ pub(crate) fn is_info(words: &Words<'_>) -> bool
     }
 }
 
-/// Whether words ask how many keys there are: they are INFO with the section of the keyspace.
+/// Whether words ask the number of keys: they are INFO with the section of the keyspace.
 #[tactic(auto, unfolding(xs_command::specs::Words::word))]
 pub(crate) fn asks_keys(standing: &Standing, words: &Words<'_>) -> bool
     ensures { result ≡ asks_keys standing.now words.now }
@@ -61,10 +61,10 @@ pub(crate) fn asks_keys(standing: &Standing, words: &Words<'_>) -> bool
     }
 }
 
-/// The most bytes of the line of the keyspace, and some more.
+/// The room for the line of the keyspace, in bytes. The line is shorter.
 const KEYSPACE_LINE_BYTES: usize = 64;
 
-/// What INFO tells before the line of the keyspace, with room for that line. A contract sees the text.
+/// The text of INFO before the line of the keyspace, with room for that line. A contract sees the text.
 #[derive(Drop)]
 pub struct Information {
     text: Vec<u8>,
@@ -91,7 +91,7 @@ impl Information {
         Ok(Self { text })
     }
 
-    /// With the line of the keyspace, if there are so many keys.
+    /// The text with the line of the keyspace for this number of keys; there is none for 0.
     fn with_keys(self, keys: U63) -> Bytes
         ensures { result ≡ self ++ keyspace_line keys }
     {
@@ -105,7 +105,7 @@ impl Information {
         Bytes::new(text)
     }
 
-    /// The answer to INFO once this reply says how many keys there are. Another reply is the answer itself.
+    /// The answer to INFO, if this is the reply with the number of keys. Any other reply is the answer itself.
     pub fn answer(self, reply: Reply) -> Reply
         ensures { result ≡ informed self reply }
     {

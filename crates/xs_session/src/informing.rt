@@ -1,4 +1,4 @@
-//! What becomes of INFO.
+//! How INFO is taken.
 ghost use Rattle.std.specs.Prelude.{◌≡◌, ◌∷◌, [], codes, true, is_some, IfOk, MatchResult};
 ghost use Rattle.xs_command.specs.declared.command.Command.{Command};
 ghost use Rattle.xs_command.specs.declared.command.Inspection.{Inspection};
@@ -16,7 +16,7 @@ use xs_desk::Call;
 use xs_resp::{Fault, Reply, Request};
 use xs_tape::can_be_record;
 
-/// The word that asks how many keys there are.
+/// The word that asks the number of keys.
 fn dbsize(alloc: Global) -> Result<List<Bytes>, AllocError>
     ensures { IfOk result (λ words. words ≡ codes "DBSIZE" ∷ []) }
 {
@@ -25,8 +25,8 @@ fn dbsize(alloc: Global) -> Result<List<Bytes>, AllocError>
     Ok(List::new(words))
 }
 
-/// The words that ask how many keys there are, for a log. Words that no log can have a record of are refused as if there
-/// were no memory.
+/// The words that ask the number of keys, for a log. If a log can't have a record of them, they are refused as if
+/// memory ran out.
 fn words_of_keys(alloc: Global) -> Result<List<Bytes>, AllocError>
     ensures { IfOk result (λ words. AreWordsOf words (Command.Inspect Inspection.KeyCount)) }
 {
@@ -37,7 +37,7 @@ fn words_of_keys(alloc: Global) -> Result<List<Bytes>, AllocError>
     Ok(words)
 }
 
-/// The call that asks how many keys there are, with its words if they are wanted.
+/// The call that asks the number of keys, with its words if they are needed.
 fn call_of_keys(alloc: Global, wants_words: bool) -> Result<Call, AllocError>
     ensures command { IfOk result (λ call. call.command ≡ Command.Inspect Inspection.KeyCount) }
     ensures formed { IfOk result IsFormed }
@@ -57,7 +57,7 @@ fn call_of_keys(alloc: Global, wants_words: bool) -> Result<Call, AllocError>
     })
 }
 
-/// What INFO tells besides how many keys there are.
+/// The text of INFO without the section of the keyspace.
 fn information_of<I: Inform>(
     alloc: Global,
     inform: &I,
@@ -71,7 +71,7 @@ fn information_of<I: Inform>(
     Information::new(alloc, told.as_slice())
 }
 
-/// What is asked for INFO, and what it tells besides; or what it is answered at once.
+/// The call that INFO asks, and the text before the section of the keyspace; or the answer, if there is one at once.
 pub fn take_info<I: Inform>(
     alloc: Global,
     wants_words: bool,

@@ -1,5 +1,5 @@
-//! A connection with no IO, no thread and no port: it hands out the calls of the requests that it has read, and is
-//! handed the replies to them. Nothing in it waits, but while no memory is found it lets other threads go on.
+//! A connection without IO, threads or ports: it hands out the calls of the requests that it has read, and gets the
+//! replies to them. It doesn't wait, except that it lets other threads go on while memory is refused.
 #![tactic(auto)]
 
 pub mod ending;

@@ -8,14 +8,14 @@ use xs_connection::{Password, Standing};
 /// Which commands a session answers itself.
 #[derive(Drop)]
 pub enum Manner {
-    /// None. All others than those of the keyspace are unknown.
+    /// None. Only the commands of the keyspace are known.
     Plain,
-    /// Those of a connection. A password is wanted before anything else, if there is one.
+    /// Those of a connection. If there is a password, it is required before anything else.
     Full(Option<Password>),
 }
 
 impl Manner {
-    /// Whether a password is wanted that the connection hasn't given.
+    /// Whether a password is required that the connection hasn't given.
     pub fn is_stranger(&self, standing: &Standing) -> bool
         ensures { result ≡ is_stranger self.now standing.now }
     {

@@ -11,7 +11,7 @@ use std::collections::VecDeque;
 use std::marker::Model;
 use xs_resp::Reply;
 
-/// The most places.
+/// The most places of a session.
 pub const AHEAD: usize = 32;
 
 /// The place of an answer.
@@ -19,16 +19,16 @@ pub const AHEAD: usize = 32;
 pub enum Place {
     /// The answer is there.
     Answer(Reply),
-    /// A reply is waited for, which is the answer.
+    /// It waits for a reply, which is the answer.
     Awaits,
-    /// A reply is waited for that says how many keys there are. The answer tells this besides.
+    /// It waits for a reply with the number of keys. The answer has this text, and then the line with that number.
     AwaitsKeys(Information),
 }
 
 impl Place {
     ghost use Rattle.std.specs.Prelude.{◌≡◌};
 
-    /// The answer at this place, once a reply that it waits for has come.
+    /// The answer at this place, after the reply for which it waits has come.
     fn answer(self, reply: Reply) -> Reply
         ensures { result ≡ answered self reply }
     {
@@ -40,12 +40,12 @@ impl Place {
     }
 }
 
-/// The places of answers, in the order of their requests: those that are there, and then from the first one on that is
-/// waited for. A contract sees the list of the places.
+/// The places of answers, in the order of their requests: answers that are there, and then places from the first one on
+/// that waits. A contract sees the list of the places.
 #[derive(Drop)]
 pub struct Places {
     ready: VecDeque<Reply>,
-    // An answer that nothing was asked for may come behind what is waited for.
+    // An answer for which nothing was asked can come after places that wait.
     behind: VecDeque<Place>,
 }
 
@@ -66,7 +66,7 @@ impl Model for Places {
 impl Places {
     ghost use Rattle.std.specs.Prelude.{◌≡◌, ◌<◌, ◌≤◌, ◌++◌, ◌∷◌, [], length, true, IfOk, MatchOption};
 
-    /// No place, with the memory for all.
+    /// No places, with the memory for all.
     pub fn new(alloc: Global) -> Result<Self, AllocError>
         ensures { IfOk result (λ places. places ≡ []) }
     {
@@ -84,7 +84,7 @@ impl Places {
         self.behind.clear();
     }
 
-    /// Whether there is room for one more, if there are to be so many at most.
+    /// Whether there is room for one more, if there may be at most `most`.
     pub fn has_room(&self, most: usize) -> bool
         ensures { result ≡ true → length self.now < 32 }
     {
@@ -99,7 +99,7 @@ impl Places {
         self.ready.is_empty() && self.behind.is_empty()
     }
 
-    /// Whether an answer is waited for. There are never more than 32 places.
+    /// Whether a place waits for a reply. There are never more than 32 places.
     pub fn is_open(&self) -> bool
         ensures open { result ≡ has_open self.now }
         ensures few { length self.now ≤ 32 }
@@ -107,7 +107,7 @@ impl Places {
         !self.behind.is_empty()
     }
 
-    /// One more, which is waited for.
+    /// Appends a place that waits.
     pub fn ask(&mut self, place: Place)
         requires room { length self.old < 32 }
         requires waits { is_open place ≡ true }
@@ -116,7 +116,7 @@ impl Places {
         self.behind.push_back_reserved(place);
     }
 
-    /// One more, which is this answer.
+    /// Appends this answer.
     pub fn say(&mut self, reply: Reply)
         requires { length self.old < 32 }
         ensures { self.new ≡ self.old ++ place.Answer reply ∷ [] }
@@ -128,7 +128,7 @@ impl Places {
         }
     }
 
-    /// The reply that the first one waits for has come.
+    /// Fills the first place that waits, with this reply.
     pub fn answer(&mut self, reply: Reply)
         requires { has_open self.old ≡ true }
         ensures { self.new ≡ fill_first reply self.old }
@@ -138,7 +138,7 @@ impl Places {
         settle(&mut self.ready, &mut self.behind);
     }
 
-    /// Takes the first one, if it is there.
+    /// Takes the first answer, if it is there.
     pub fn next(&mut self) -> Option<Reply>
         ensures { MatchOption result ((self.new ≡ self.old) × NoneReady self.old)
             (λ reply. self.old ≡ place.Answer reply ∷ self.new) }
@@ -147,7 +147,7 @@ impl Places {
     }
 }
 
-/// Moves the answers at the front of what is behind to what is ready.
+/// Moves the answers at the front of `behind` to `ready`.
 fn settle(ready: &mut VecDeque<Reply>, behind: &mut VecDeque<Place>)
     requires { (deque_len ready.old + deque_len behind.old ≤ 32) × (32 ≤ deque_capacity ready.old) }
     ensures view { places_of ready.new.items behind.new.items ≡ places_of ready.old.items behind.old.items }

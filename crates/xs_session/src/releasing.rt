@@ -1,4 +1,4 @@
-//! What becomes of requests that EXEC has let go.
+//! How requests that EXEC has released are taken.
 ghost use Rattle.std.specs.Prelude.{◌≡◌, ◌<◌, length, true, Ok, IfOk, MatchResult};
 ghost use Rattle.xs_command.specs.Read.{command_of_words};
 ghost use Rattle.xs_command.specs.WellFormed.{IsWellFormed};
@@ -13,8 +13,8 @@ use xs_command::{Command, Refusal, read_command};
 use xs_resp::{Fault, Reply};
 use xs_tape::can_be_record;
 
-/// The command that words say, as `read_command` gives it. While no memory is found, the reserve is given back piece by
-/// piece for further tries.
+/// The command that words spell, as `read_command` reads it. While memory is refused, the reserve is given back piece
+/// by piece for further tries.
 fn command_of(alloc: Global, reserve: &mut Reserve, words: &[Bytes]) -> Result<Command, Refusal>
     requires { 0 < length words.now }
     ensures exact { Gives result (command_of_words words.now) }
@@ -27,8 +27,8 @@ fn command_of(alloc: Global, reserve: &mut Reserve, words: &[Bytes]) -> Result<C
     said
 }
 
-/// The command of words that EXEC has let go, or what they are answered. If words are wanted for a log, those that no log
-/// can have a record of are refused as if there were no memory.
+/// The command of words that EXEC has released, or the reply to them. If words are needed for a log that can't have a
+/// record of them, they are refused as if memory ran out.
 #[tactic(auto, unfolding(xs_command::specs::Read::command_of_words, xs_command::specs::Words::word))]
 pub fn command_of_released(
     alloc: Global,

@@ -4,22 +4,23 @@ ghost use Rattle.std.specs.Prelude.{◌≡◌, ◌==◌, ◌≤◌, ◌-◌, len
 use std::alloc::{AllocError, Global};
 use std::marker::Model;
 
-/// How many small pieces a whole reserve has, and how many bytes each, which is enough for most commands. Of less than
-/// half as much the C library would keep what is given back for requests of the very same size.
+/// The number of small pieces in a full reserve. `SMALL_PIECE` is the size of each in bytes, which is enough for most
+/// commands. Pieces of less than half that size, given back, would be kept by the C library for requests of the very
+/// same size.
 const SMALL_PIECES: usize = 8;
 
 const SMALL_PIECE: usize = 2048;
 
-/// How many great pieces a whole reserve has, and how many bytes each: together they are enough for the command of a
-/// request of up to 16 KiB. The C library maps pieces of so many bytes by themselves, and gives them back to the system:
-/// so a thread finds their memory that has taken none before.
+/// The number of large pieces in a full reserve. `GREAT_PIECE` is the size of each in bytes. Together they are enough
+/// for the command of a request of up to 16 KiB. The C library maps pieces of this size by themselves, and gives them
+/// back to the system. So a thread that has taken no memory before can get it.
 const GREAT_PIECES: usize = 2;
 
 const GREAT_PIECE: usize = 131_072;
 
-/// Memory that nobody uses. It is made whole before each request, and given back piece by piece, the small ones first,
-/// while a command finds no memory. So most commands take little of it, and little makes it whole again. A contract sees
-/// how many pieces it has.
+/// Unused memory. It is filled before each request, and given back piece by piece, the small ones first, while memory
+/// is refused for a command. So most commands take little of it, and little fills it again. A contract sees the number
+/// of its pieces.
 #[derive(Drop)]
 pub struct Reserve {
     small: Vec<Vec<u8>>,
@@ -36,7 +37,7 @@ impl Model for Reserve {
     ghost invariant = { λ r. (length r.small.items ≤ 8) × (length r.great.items ≤ 2) };
 }
 
-/// Adds pieces of so many bytes until there are so many. A refusal leaves those that were found.
+/// Adds pieces of `bytes` bytes until there are `count`. If memory runs out, those that were added stay.
 fn add_pieces(
     alloc: Global,
     pieces: &mut Vec<Vec<u8>>,
@@ -55,7 +56,7 @@ fn add_pieces(
 }
 
 impl Reserve {
-    /// A whole reserve.
+    /// A full reserve.
     pub fn new(alloc: Global) -> Result<Self, AllocError>
         ensures { IfOk result (λ reserve. reserve ≡ 10) }
     {
@@ -67,7 +68,7 @@ impl Reserve {
         Ok(reserve)
     }
 
-    /// Makes it whole. A refusal leaves the pieces that were found.
+    /// Fills it. If memory runs out, the pieces that were added stay.
     pub fn fill(&mut self, alloc: Global) -> Result<(), AllocError>
         ensures { OnOk result (self.new ≡ 10) }
     {
@@ -82,7 +83,7 @@ impl Reserve {
         self.small.is_empty() && self.great.is_empty()
     }
 
-    /// Gives a piece back, and says whether there was one.
+    /// Gives a piece back. Returns whether there was one.
     pub fn give_back(&mut self) -> bool
         ensures some { result ≡ not (self.old == 0) }
         ensures fewer { self.new ≡ self.old - 1 }

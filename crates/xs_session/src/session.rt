@@ -42,58 +42,59 @@ use xs_desk::Call;
 use xs_io::{Fill, FillFault, Source};
 use xs_resp::{Encoder, Fault, Reply, Request, Requests};
 
-/// What a turn of a session comes to.
+/// The result of a turn of a session.
 #[derive(Debug, Drop)]
 pub enum Turn {
     /// It goes on.
     Goes,
-    /// This call is asked. Its reply is handed in by `hand_in`.
+    /// This call is asked. `hand_in` takes its reply.
     Asks(Call),
     /// It waits for bytes.
     Waits,
-    /// It takes no further request until answers that it waits for are there, and are gathered. If there are none, it
-    /// waits for memory: the caller lets others go on, and tries again.
+    /// It takes no further request until answers that it waits for are there, and are gathered. If it waits for none,
+    /// it waits for memory: the caller lets other threads go on, and tries again.
     Full,
     /// It takes no further request.
     Ends(Ending),
 }
 
-/// How many bytes of requests are held without more memory: those of one read, and twice a request of 16 KiB.
+/// The bytes of requests that can be held without more memory: those of one read, and twice a request of 16 KiB.
 const REQUEST_BYTES: usize = 131_072;
 
-/// How often a session waits for a piece of its reserve, at most, before it takes requests without any.
+/// How often a session waits at most for a piece of its reserve before it takes requests without one.
 const MOST_WAITS: u32 = 20;
 
-/// How many sessions there are at once, at most.
+/// The most sessions at once.
 const MOST_SESSIONS: u64 = 1024;
 
-/// A session: the bytes that came in and aren't taken yet, the places of the answers to the requests that are, and what
-/// is owed of those that are begun.
+/// A session: the bytes that were read and aren't taken yet, the places of the answers to the requests that were taken,
+/// and the unsent bytes of the answers that are begun.
 #[derive(Drop)]
 pub struct Session {
     alloc: Global,
     reserve: Reserve,
-    /// What the connection has said of itself.
+    /// The state of the connection.
     pub standing: Standing,
     pub requests: Requests,
     pub places: Places,
-    /// What is being written.
+    /// The unsent bytes.
     pub owed: Encoder,
     /// Why no further request is taken.
     pub ended: Option<Ending>,
-    /// Nothing is taken before every answer is gathered: the last command was asked alone, or the next one will be.
+    /// Whether every answer has to be gathered before a request is taken: the last command was asked alone, or the next
+    /// one will be.
     pub alone: bool,
-    /// The last command was let go by EXEC: a read with BLOCK isn't to wait.
+    /// Whether EXEC released the last command: then a read with BLOCK must not wait.
     pub hurries: bool,
-    /// What was answered, in this session and in those before it over the same memory.
+    /// The number of answers, in this session and in those before it over the same memory.
     pub tally: Tally,
-    // How many answers may have places: fewer while memory is refused.
+    // The most answers that may have places: fewer while memory is refused.
     most: usize,
-    // How often it may wait for a piece of its reserve until there is one again.
+    // How often it may still wait for a piece of its reserve until there is one again.
     waits_left: u32,
 }
 
-/// How a session ends behind a command, if it does.
+/// How a session ends after a command, if it does.
 fn end_by(command: &Command) -> Option<Ending>
     ensures { result ≡ ending_of command.now }
 {
@@ -103,7 +104,7 @@ fn end_by(command: &Command) -> Option<Ending>
     }
 }
 
-/// A connection with this number that has said nothing.
+/// A new connection with this number.
 fn first_standing(alloc: Global, manner: &Manner, id: U63) -> Standing
     ensures { IsFirst manner.now result }
 {
@@ -113,7 +114,7 @@ fn first_standing(alloc: Global, manner: &Manner, id: U63) -> Standing
     }
 }
 
-/// The number of the next connection over the same memory. Those over other memory have others.
+/// The number of the next connection over the same memory. It differs from those over other memory.
 fn next_id(id: U63) -> U63 {
     match id.get().checked_add(MOST_SESSIONS) {
         Some(next) if next <= U63::MAX => U63::new(next),
@@ -121,7 +122,7 @@ fn next_id(id: U63) -> U63 {
     }
 }
 
-/// Whether the reply to a command may be of any size, or long in coming.
+/// Whether the reply to a command may have any size, or may take long.
 fn is_alone(command: &Command) -> bool
     ensures { result ≡ is_alone command.now }
 {
@@ -136,8 +137,8 @@ fn is_alone(command: &Command) -> bool
     )
 }
 
-/// How many answers may have places behind a reply: one if memory was refused, and then one more with each. So a client
-/// that adds while memory is full has few commands that only take memory.
+/// The most answers that may have places after a reply: one if memory was refused, and then one more with each reply.
+/// So a client that adds while memory is full has few commands that only take memory.
 fn next_most(most: usize, reply: &Reply) -> usize {
     if matches!(reply, Reply::Error(Fault::Memory)) {
         return 1;
@@ -145,8 +146,8 @@ fn next_most(most: usize, reply: &Reply) -> usize {
     most.saturating_add(1).min(AHEAD)
 }
 
-/// Makes the reserve whole as far as memory is found, and says whether a request has to wait, since there is no piece.
-/// Additions don't wait, and others only so often.
+/// Fills the reserve as far as memory is found. Returns whether a request has to wait, because the reserve is empty.
+/// Additions don't wait, and others at most `MOST_WAITS` times.
 fn waits_for_memory(
     alloc: Global,
     reserve: &mut Reserve,
@@ -169,7 +170,8 @@ impl Session {
     ghost use Rattle.xs_io.specs.declared.fill.FillFault.{FillFault};
     ghost use Rattle.xs_session.specs.declared.ending.Ending.{Ending};
 
-    /// A session before its first byte, with all the memory that small requests need. Its connection has this number.
+    /// A session before its first byte, with all the memory that small requests need. Its connection has the number
+    /// `id`.
     pub fn new(alloc: Global, manner: &Manner, id: U63) -> Result<Self, AllocError>
         ensures { IfOk result (IsNew manner.now) }
     {
@@ -204,7 +206,7 @@ impl Session {
         self.waits_left = MOST_WAITS;
     }
 
-    /// Whether every answer is begun, and all that is owed is gathered.
+    /// Whether every answer is begun, and all unsent bytes are gathered.
     fn is_gathered(&self) -> bool
         ensures { result ≡ true → IsGathered self.now }
     {
@@ -227,10 +229,10 @@ impl Session {
         false
     }
 
-    /// Takes the next request, if there is one and room for its answer. A call has its words if they are wanted. INFO
-    /// is answered what is told here.
+    /// Takes the next request, if there is one and room for its answer. A call has its words if `wants_words` is true.
+    /// `inform` gives the text of INFO.
     ///
-    /// A command whose reply may be of any size, or long in coming, is asked only once every answer before it is
+    /// A command whose reply may have any size, or may take long, is asked only once every answer before it is
     /// gathered, and the next one once its own is. So at most one reply of any size is held.
     pub fn advance<I: Inform>(&mut self, manner: &Manner, inform: &I, wants_words: bool) -> Turn
         ensures turns { (read : List ℕ) (asked : List Command) (got : List Reply) (sent : List ℕ) →
@@ -261,7 +263,7 @@ impl Session {
         }
     }
 
-    /// Takes the next of the requests that EXEC has let go: there is one, and room for its answer.
+    /// Takes the next of the requests that EXEC has released. There has to be one, and room for its answer.
     fn run_next(&mut self, wants_words: bool) -> Turn
         requires released { 0 < length (released_of self.old.standing.transaction) }
         requires room { length self.old.places < 32 }
@@ -292,7 +294,7 @@ impl Session {
         }
     }
 
-    /// Asks a command that EXEC has let go, unless it is to be asked alone and some answer isn't gathered.
+    /// Asks a command that EXEC has released, unless it is to be asked alone and some answer isn't gathered.
     fn ask_released(&mut self, wants_words: bool, command: Command) -> Turn
         requires said { (words : List (List ℕ)) × (others : List (List (List ℕ)))
             × (self.old.standing.transaction ≡ Transaction.Released (words ∷ others))
@@ -317,8 +319,8 @@ impl Session {
         })
     }
 
-    /// Whether a command has to wait, since it is to be asked alone and some answer isn't gathered. If it is and goes,
-    /// the next one waits for its answer.
+    /// Whether a command has to wait, because it is to be asked alone and some answer isn't gathered. If it is to be
+    /// asked alone and needn't wait, the next one waits for its answer.
     fn waits_for_others(&mut self, command: &Command) -> bool
         requires several { self.old.alone ≡ false }
         ensures waits { result ≡ true → self.new ≡ record self.old { alone = true } }
@@ -332,7 +334,7 @@ impl Session {
         !self.is_gathered()
     }
 
-    /// Takes the next request, if there is one: there is room for its answer.
+    /// Takes the next request, if there is one. There has to be room for its answer.
     fn take_next<I: Inform>(&mut self, manner: &Manner, inform: &I, wants_words: bool) -> Turn
         requires room { length self.old.places < 32 }
         requires going { self.old.ended ≡ None }
@@ -443,7 +445,7 @@ impl Session {
         Turn::Goes
     }
 
-    /// Takes INFO, which is at the front, once every answer is gathered: it tells of what was answered before it.
+    /// Takes INFO, which is at the front, once every answer is gathered: it reports what was answered before it.
     fn inform<I: Inform>(&mut self, manner: &Manner, inform: &I, wants_words: bool) -> Turn
         requires whole { HasNext self.old.requests }
         requires room { length self.old.places < 32 }
@@ -483,8 +485,8 @@ impl Session {
         }
     }
 
-    /// Takes the request at the front, whose command is to be asked, unless it is to be asked alone and some answer isn't
-    /// gathered; and says whether it did. So its answer is waited for.
+    /// Takes the request at the front and waits for its answer at this place, unless its command is to be asked alone
+    /// and some answer isn't gathered. Returns whether it did.
     fn take_call(&mut self, command: &Command, place: Place) -> bool
         requires whole { HasNext self.old.requests }
         requires room { length self.old.places < 32 }
@@ -503,7 +505,7 @@ impl Session {
         true
     }
 
-    /// Whether the reply to an asked command is waited for. At most 32 answers are waited for or not begun.
+    /// Whether a command that was asked has no reply yet. At most 32 answers are waited for or not begun.
     pub fn is_open(&self) -> bool
         ensures open { result ≡ has_open self.now.places }
         ensures few { length self.now.places ≤ 32 }
@@ -511,8 +513,8 @@ impl Session {
         self.places.is_open()
     }
 
-    /// Hands in the reply to the first command that was asked and hasn't one. While memory is refused fewer commands
-    /// are asked ahead.
+    /// Takes the reply to the first command that was asked and hasn't one. While memory is refused, fewer commands are
+    /// asked ahead.
     pub fn hand_in(&mut self, reply: Reply)
         requires { has_open self.old.places ≡ true }
         ensures after { (manner : Manner) (read : List ℕ) (asked : List Command) (got : List Reply) (sent : List ℕ) →
@@ -527,7 +529,7 @@ impl Session {
         self.places.answer(reply);
     }
 
-    /// Begins the next answer if it is there and all that is owed is gathered, and says whether it did.
+    /// Begins the next answer, if it is there and all unsent bytes are gathered. Returns whether it did.
     pub fn begin_answer(&mut self) -> bool
         ensures after { (manner : Manner) (read : List ℕ) (asked : List Command) (got : List Reply) (sent : List ℕ) →
             SessionIsAfter manner read asked got sent self.old → SessionIsAfter manner read asked got sent self.new }
@@ -551,7 +553,7 @@ impl Session {
         true
     }
 
-    /// The front of what is owed. It is empty only if nothing is owed.
+    /// The front of the unsent bytes. It is empty only if there are none.
     pub fn output(&self) -> &[u8]
         ensures value { result.now ≡ self.now.owed.piece }
         ensures all { result.now ≡ [] → bytes_left self.now.owed ≡ [] }
@@ -559,7 +561,7 @@ impl Session {
         self.owed.piece()
     }
 
-    /// Says that the front of what is owed is written.
+    /// Notes that the front of the unsent bytes is written.
     pub fn mark_sent(&mut self)
         ensures after { (manner : Manner) (read : List ℕ) (asked : List Command) (got : List Reply) (sent : List ℕ) →
             SessionIsAfter manner read asked got sent self.old →
@@ -572,7 +574,7 @@ impl Session {
         self.owed.advance();
     }
 
-    /// Reads bytes in, at most 64 KiB, and says how many: 0 only at the end.
+    /// Reads bytes, at most 64 KiB, and returns their number: 0 only at the end.
     ///
     /// # Errors
     /// It is unchanged.
@@ -594,7 +596,7 @@ impl Session {
         self.requests.fill(reader)
     }
 
-    /// How it ends at the end of the input.
+    /// How the session ends at the end of the input.
     pub fn end(&self) -> Ending
         ensures { result ≡ (if holds_bytes self.now.requests then Ending.Cut else Ending.Closed) }
     {

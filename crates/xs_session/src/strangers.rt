@@ -11,7 +11,7 @@ const MOST_WORDS: usize = 10;
 /// The most bytes of a word.
 const MOST_BYTES: usize = 16_384;
 
-/// How many bytes the greatest such request has: `*10`, and ten times `$16384` and a word, with their ends of lines.
+/// The number of bytes of the largest such request: `*10`, and ten times `$16384` and a word, with their line ends.
 const MOST_HELD: usize = 163_945;
 
 /// Whether no word is above the limit.
@@ -35,7 +35,8 @@ fn is_small(words: Request<'_>) -> bool
     words.len() <= MOST_WORDS && are_short(words)
 }
 
-/// Whether more is held than a client may send before it has given the password; a whole request is held, or none is.
+/// Whether more is held than a client may send before it has given the password. `is_whole` has to be whether a
+/// complete request is held.
 pub fn is_too_much(requests: &Requests, is_whole: bool) -> bool
     requires looked { (old : Held) × Ready old (Ok is_whole) requests.now }
     ensures { result ≡ is_too_much requests.now }

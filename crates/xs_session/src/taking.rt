@@ -1,4 +1,4 @@
-//! What becomes of a request: its call is asked, or it is answered at once, or it is INFO.
+//! How a request is taken: its call is asked, or it is answered at once, or it is INFO.
 ghost use Rattle.std.specs.Prelude.{◌≡◌, ◌<◌, length, Bool, true, is_some, IfOk, Ok, Err};
 ghost use Rattle.xs_command.specs.declared.command.Command.{Command};
 ghost use Rattle.xs_command.specs.Read.{command_of_words};
@@ -21,7 +21,7 @@ use xs_desk::Call;
 use xs_resp::{Fault, Reply, Request};
 use xs_tape::can_be_record;
 
-/// Whether the first word is XADD: it has to do without memory first.
+/// Whether the first word is XADD: additions are the first to be refused if memory runs out.
 pub(crate) fn names_addition(words: Request<'_>) -> bool {
     match Words::of_request(words).word() {
         Ok((first, _)) => first.is(b"xadd"),
@@ -29,22 +29,22 @@ pub(crate) fn names_addition(words: Request<'_>) -> bool {
     }
 }
 
-/// What becomes of a request.
+/// How a request is taken.
 #[derive(Drop)]
 pub enum Taking {
     /// This call is asked.
     Asks(Call),
-    /// It is answered this at once.
+    /// This is the answer at once.
     Says(Reply),
-    /// It is INFO, and nothing has become of it yet: it tells of what was answered before it.
+    /// It is INFO, and isn't taken yet: it reports what was answered before it.
     Info,
 }
 
-/// How often memory is looked for, at most, before a request is answered that there is none.
+/// The most tries to get memory before a request is answered with out of memory.
 const MOST_TRIES: u32 = 1000;
 
-/// Makes room for a further try to find memory, and says whether there is to be one: a piece of the reserve is given back,
-/// or others go on that may give some back. Additions have to do with the reserve.
+/// Makes room for a further try to get memory, and returns whether there is to be one: a piece of the reserve is given
+/// back, or other threads go on, which may give some back. Additions only use the reserve.
 fn makes_room(reserve: &mut Reserve, words: Request<'_>) -> bool {
     if reserve.give_back() {
         return true;
@@ -56,7 +56,7 @@ fn makes_room(reserve: &mut Reserve, words: Request<'_>) -> bool {
     true
 }
 
-/// The command of a request, as `read_request` gives it. While no memory is found there are further tries.
+/// The command of a request, as `read_request` reads it. While memory is refused there are further tries.
 fn command_of(alloc: Global, reserve: &mut Reserve, words: Request<'_>) -> Result<Command, Refusal>
     requires { 0 < length words }
     ensures exact { Gives result (command_of_words words.entry) }
@@ -72,8 +72,8 @@ fn command_of(alloc: Global, reserve: &mut Reserve, words: Request<'_>) -> Resul
     said
 }
 
-/// A copy of the words of a request, for a log. While no memory is found there are further tries. Words that no log can
-/// have a record of are refused as if there were no memory.
+/// A copy of the words of a request, for a log. While memory is refused there are further tries. If a log can't have a
+/// record of the words, they are refused as if memory ran out.
 fn words_of(
     alloc: Global,
     reserve: &mut Reserve,
@@ -97,7 +97,7 @@ fn words_of(
     Ok(copies)
 }
 
-/// What becomes of words with this fault: an unknown command may be one of the connection.
+/// How words with this fault are taken: an unknown command may be one of the connection.
 fn take_fault<I: Inform>(
     alloc: Global,
     manner: &Manner,
@@ -130,7 +130,7 @@ fn goes_at_once(standing: &Standing, command: &Command) -> bool
     matches!(command, Command::Quit) || !standing.transaction.is_queueing()
 }
 
-/// Has the words of a command wait for EXEC.
+/// Puts the words of a command into the queue for EXEC.
 fn enqueue(
     alloc: Global,
     reserve: &mut Reserve,
@@ -145,7 +145,7 @@ fn enqueue(
     }
 }
 
-/// The words of a request, if they are wanted for a log.
+/// The words of a request, if they are needed for a log.
 fn wanted_words_of(
     alloc: Global,
     reserve: &mut Reserve,
@@ -174,7 +174,7 @@ fn names_quit(words: &Words<'_>) -> bool
     }
 }
 
-/// What becomes of a request: a call has its words if they are wanted.
+/// Takes a request. A call has its words if `wants_words` is true.
 pub fn take_request<I: Inform>(
     alloc: Global,
     reserve: &mut Reserve,

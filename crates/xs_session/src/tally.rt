@@ -1,10 +1,10 @@
-//! How many replies there were.
+//! The number of replies.
 ghost use Rattle.std.specs.Prelude.{◌≡◌, ◌+◌, ◌^◌, ◌%◌, if◌then◌else◌};
 ghost use Rattle.xs_session.specs.Tally.{is_error};
 
 use xs_resp::Reply;
 
-/// How many replies were begun, and how many of them were errors, modulo 2^64.
+/// The number of replies that were begun, and of errors among them, modulo 2^64.
 #[derive(Clone, Copy, Debug, Default, PartialEq, Eq)]
 pub struct Tally {
     pub replies: u64,
@@ -19,7 +19,7 @@ fn is_error(reply: &Reply) -> bool
 }
 
 impl Tally {
-    /// Counts one reply more.
+    /// Counts one more reply.
     pub fn count(&mut self, reply: &Reply)
         ensures replies { self.new.replies ≡ (self.old.replies + 1) % 2 ^ 64 }
         ensures errors { self.new.errors ≡ (self.old.errors + (if is_error reply.now then 1 else 0)) % 2 ^ 64 }

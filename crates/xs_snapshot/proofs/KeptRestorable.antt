@@ -1,4 +1,4 @@
--- What the types of streams and groups keep is restorable.
+-- What the types of streams and groups ensure is restorable.
 use Rattle.std.proofs.Common.{◌≡◌, ℕ, ◌≤◌, Bool, true, false, not, ◌&&◌, nat_le, List, [], ◌∷◌, refl, arith}
 use Rattle.std.proofs.lemmas.Bool.Decides.{nat_tests}
 use Rattle.xs_stream.specs.declared.id.Id.{Id}

@@ -1,4 +1,4 @@
--- What holds of a key that may have more entries and groups.
+-- What is true of a key that may get more entries and groups.
 use Rattle.std.proofs.Common.{◌≡◌, List, [], ◌∷◌, ◌++◌, Option, None, true, sym, ap, subst, ◌∙◌}
 use Rattle.std.proofs.lemmas.List.{map-append}
 use Rattle.xs_bytes.specs.SortedMap.{NameMap, empty}
@@ -28,7 +28,7 @@ nothing-so_far stream groups is none = record {
   restorable = subst (λ (m : NameMap GroupState). AreRestorableGroups m.entries) (sym none) tt;
 }
 
--- what a stream keeps is unchanged
+-- the properties of a stream stay
 pub same-so_far : (old new : StreamInMemory) (groups : NameMap GroupState) (group : Option (Bytes × GroupState)) → IsKeySoFar old groups group → state_of new ≡ state_of old → IsKeySoFar new groups group
 same-so_far old new groups group so_far is = record {
   top_is_last = ap (λ (s : StreamState). s.top) is ∙ so_far.top_is_last ∙ sym (ap (λ (s : StreamState). last_id s.entries) is);

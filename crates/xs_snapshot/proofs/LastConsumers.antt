@@ -1,4 +1,4 @@
--- A consumer behind the last one.
+-- A consumer after the last one.
 use Rattle.std.proofs.Common.{◌≡◌, ℕ, true, false, List, [], ◌∷◌, ◌++◌, Some, None, refl, arith}
 use Rattle.std.proofs.Math.Dec.{T}
 use Rattle.std.specs.List.{list_all}
@@ -38,11 +38,11 @@ module _ {X : Type 0} where
   pub past-last_name : (m : NameMap X) (name last : Bytes) → Some last ≡ last_name m.entries → is_name_before last name ≡ is_past_names name m
   past-last_name m name last is = past-entries m.entries name last m.sorted is
 
-  -- and so is everything where there is none
+  -- every name is above all if there are none
   pub past-no_name : (m : NameMap X) (name : Bytes) → None ≡ last_name m.entries → true ≡ is_past_names name m
   past-no_name m name is = none-entries m.entries name is
 
--- such a consumer is put behind the others
+-- such a consumer is inserted after the others
 pub consumers-more : (name : Bytes) (moment : ℕ) (group : GroupState) → is_past_names name group.consumers ≡ true
     → (with_consumer name moment group).consumers.entries ≡ group.consumers.entries ++ (name, moment) ∷ []
 consumers-more name moment group past =

@@ -1,4 +1,4 @@
--- What is left of a content of whose pieces the first were read.
+-- What is left of a content after the first of its pieces were read.
 use Rattle.std.proofs.Common.{◌≡◌, ◌⊎◌, inl, inr, ℕ, ◌≤◌, Bool, true, false, List, [], ◌∷◌, ◌++◌, map}
 use Rattle.std.proofs.Common.{refl, sym, ap, ◌∙◌, arith, append_assoc, append-nil}
 use Rattle.std.specs.Prelude.{nat_le}
@@ -22,7 +22,7 @@ consumer_piece c = of_consumer c.0 c.1
 abbrev pub row_piece : Id × RowState → Piece
 row_piece r = of_row r.0 r.1
 
--- how deep a piece stands: a key and a group end what is deeper
+-- the depth of a piece: a key and a group end what is deeper
 abbrev pub depth : Piece → ℕ
 depth (of_key name top added deleted) = 0
 depth (of_group name cursor) = 1
@@ -76,7 +76,7 @@ same_row a b e =
 
 -- ---- of a group
 
--- consumers and rows that are left; consumers only where no row was read
+-- consumers and rows that are left; consumers only if no row was read
 pub record MembersAhead (cs all : List (Bytes × ℕ)) (rs every : PendingEntries) (read behind : List Piece) : Type 0 where
   pub consumers : List (Bytes × ℕ)
   pub rows : PendingEntries
@@ -104,7 +104,7 @@ module _ (cs all : List (Bytes × ℕ)) (every : PendingEntries) (read behind : 
       let found = ahead consumer_piece 3 (λ a. refl) same_consumer cs all (map row_piece rs ++ read) (map row_piece every ++ behind) (rows-up_to every behind up) regrouped in
       members-by rs found.more found.split found.rest
 
--- none are left where a group or a key follows
+-- none are left if a group or a key follows
 none-left : (read behind : List Piece) (consumers : List (Bytes × ℕ)) (rows : PendingEntries) → is_up_to 1 read ≡ true → read ≡ map consumer_piece consumers ++ (map row_piece rows ++ behind)
     → (consumers ≡ []) × (rows ≡ []) × (read ≡ behind)
 none-left read behind [] [] up e = (refl, refl, e)
@@ -166,7 +166,7 @@ entries_ahead k all read behind up e =
     let found = ahead entry_piece 1 (λ a. refl) same_entry k.1.stream.entries all.1.stream.entries (groups ++ read) (every ++ behind) (groups-up_to all.1.groups.entries behind (deeper behind 0 1 (omega arith) up)) regrouped in
     record { name = cc; top = cc; added = cc; deleted = cc; more = found.more; split = found.split; rest = found.rest }
 
--- no entries are left where a group or a key follows
+-- no entries are left if a group or a key follows
 pub no-entries-left : (read behind : List Piece) (more : Entries) → is_up_to 1 read ≡ true → read ≡ map entry_piece more ++ behind → (more ≡ []) × (read ≡ behind)
 no-entries-left read behind [] up e = (refl, e)
 no-entries-left read behind (x ∷ more) up e = absurd (false≢true (sym (ap (is_up_to 1) e) ∙ up))

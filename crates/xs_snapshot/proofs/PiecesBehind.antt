@@ -1,4 +1,4 @@
--- A piece behind those of a group, a key or a content.
+-- A piece after those of a group, a key or a content.
 use Rattle.std.proofs.Common.{◌≡◌, ℕ, List, [], ◌∷◌, ◌++◌, map, length, Option, Some, None}
 use Rattle.std.proofs.Common.{sym, ap, ◌∙◌, refl, arith, append_assoc, append-nil}
 use Rattle.std.proofs.lemmas.List.{map-append}
@@ -14,7 +14,7 @@ use Rattle.xs_keys.specs.Content.{KeyState, Content}
 use Rattle.xs_replay.specs.Pieces.{Piece, of_key, of_entry, of_group, of_consumer, of_row, pieces_of_group, pieces_of_key, pieces_of}
 use Rattle.xs_snapshot.specs.Building.{pieces_if_there, KeySoFar, pieces_of_key_so_far, pieces_so_far}
 
--- one more behind two lists, of which the second is empty, or not
+-- one more after two lists, the second of which is empty or not
 behind_first : {A B : Type 0} (f : A → B) (xs : List A) (x : A) (ys : List B) → ys ≡ [] → map f (xs ++ x ∷ []) ++ ys ≡ (map f xs ++ ys) ++ f x ∷ []
 behind_first f xs x ys none =
     rw none (append-nil (map f (xs ++ x ∷ [])) ∙ map-append f xs (x ∷ []) ∙ ap (λ zs. zs ++ f x ∷ []) (sym (append-nil (map f xs))))
@@ -46,7 +46,7 @@ row-behind old new id row named at consumers is =
 
 -- ---- of a key
 
--- pieces behind others
+-- pieces after others
 pub behind : (before old new : List Piece) (piece : Piece) → new ≡ old ++ piece ∷ [] → before ++ new ≡ (before ++ old) ++ piece ∷ []
 behind before old new piece is = ap (λ ps. before ++ ps) is ∙ sym (append_assoc before old (piece ∷ []))
 
@@ -73,13 +73,13 @@ pub pieces-new_group : (name : Bytes) (cursor : Id) → pieces_of_group (name, n
 unfolding empty
 pieces-new_group name cursor = refl
 
--- a key of nothing
+-- a key without entries and groups
 pub pieces-new_key : (name : Bytes) (top : Id) (added : ℕ) (deleted : Id)
     → pieces_of_key (name, record { stream = record { top = top; entries = []; added = added; deleted = deleted }; groups = empty }) ≡ of_key name top added deleted ∷ []
 unfolding empty
 pieces-new_key name top added deleted = refl
 
--- a group behind the last one, which goes to the others
+-- a group after the last one, which joins the others
 pub group-next : (name : Bytes) (stream : StreamState) (old new : NameMap GroupState) (last : Option (Bytes × GroupState)) (next : Bytes) (cursor : Id)
     → flat_map pieces_of_group new.entries ≡ flat_map pieces_of_group old.entries ++ pieces_if_there pieces_of_group last
     → pieces_of_key_so_far (record { key = (name, record { stream = stream; groups = new }); group = Some (next, new_group cursor) })
@@ -98,7 +98,7 @@ one-more pieces old new x is =
 
 -- ---- of a content
 
--- a key behind the last one, which goes to the others
+-- a key after the last one, which joins the others
 pub key-next : (old new : Content) (last : Option KeySoFar) (name : Bytes) (top : Id) (added : ℕ) (deleted : Id)
     → pieces_of new ≡ pieces_of old ++ pieces_if_there pieces_of_key_so_far last
     → pieces_so_far (record { content = new; key = Some (record { key = (name, record { stream = record { top = top; entries = []; added = added; deleted = deleted }; groups = empty }); group = None }) })

@@ -1,4 +1,4 @@
--- The pieces that were read of a snapshot are its first.
+-- The pieces that were read of a snapshot are its first ones.
 use Rattle.std.proofs.Common.{◌≡◌, ℕ, List, [], ◌∷◌, ◌++◌, map, length, Option, Some, refl, sym, ap, ◌∙◌, subst, append-nil}
 use Rattle.std.specs.List.{AllByRecursion}
 use Rattle.xs_io.specs.Passing.{Passing}

@@ -33,7 +33,7 @@ pub one_put : (old new : SnapshotWriting) (piece : Piece)
     → new.count ≡ old.count + 1 → new.writing.broken ≡ false → HasPutMore old new (piece ∷ [])
 one_put old new piece puts count sound = record { puts = puts; count_is = count; sound = sound }
 
--- some, and others behind them
+-- some, and others after them
 pub both_put : (old between new : SnapshotWriting) (some more : List Piece) → HasPutMore old between some → HasPutMore between new more → HasPutMore old new (some ++ more)
 both_put old between new some more first then = record {
   puts = λ number closed moment pieces has.
@@ -103,7 +103,7 @@ next_is_short old now all piece ahead here half is can =
 
 -- ---- at the exit of a `?`
 
--- an error is given on as it is
+-- an error is returned unchanged
 pub given_on : {T U E : Type 0} (inner : Result T E) (outer : Result U E) (found fault : E) → inner ≡ Err found → IsErrAnd outer (λ e. e ≡ found) → outer ≡ Err fault → inner ≡ Err fault
 given_on inner outer found fault was given is =
     let p = err_from_is_err_and outer given in
@@ -112,7 +112,7 @@ given_on inner outer found fault was given is =
 
 -- ---- what is next
 
--- what keys in memory hold
+-- the states of keys in memory
 abbrev pub states_of : List (List ℕ × KeyInMemory) → List (List ℕ × KeyState)
 states_of keys = map (λ e. (e.0, key_state_of e.1)) keys
 

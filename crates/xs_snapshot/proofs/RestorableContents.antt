@@ -35,7 +35,7 @@ use Rattle.xs_snapshot.specs.Restorable.{IsRestorableGroup, IsRestorableKey, IsR
 use Rattle.xs_snapshot.proofs.PiecesAhead.{depth, is_up_to, deeper, entry_piece, consumer_piece, row_piece, MembersAhead, members_ahead, groups-up_to, GroupsAhead, groups_ahead}
 use Rattle.xs_snapshot.proofs.PiecesAhead.{entries_ahead, no-entries-left, keys-alone, KeysAhead, keys_ahead}
 
--- ---- what stands before an entry of a sorted list
+-- ---- what is before an entry of a sorted list
 
 both_hold : (a b : Bool) → a ≡ true → b ≡ true → (a && b) ≡ true
 both_hold true b h k = k
@@ -82,7 +82,7 @@ above-last : (x : Id) (ids : List Id) (id : Id) (more : List Id) → AllAbove x 
 above-last x [] id more a s = a.0
 above-last x (y ∷ ys) id more a s = above-last y ys id more s.0 s.1
 
--- ---- the last key and the last group of what was read, in the whole content
+-- ---- the last key and the last group of what was read, in the complete content
 
 record LastGroup (all before : List (Bytes × GroupState)) (g : Bytes × GroupState) (rest later : List Piece) : Type 0 where
   pub group : Bytes × GroupState
@@ -159,7 +159,7 @@ last-key before all k rest first e = by found.more found.split found.rest where
         last = last-in k.group k.key.1.groups.entries key.1.groups.entries inner.more rest (flat_map pieces_of_key later) (keys-alone later) first inner.rest;
       }
 
--- ---- what stands at the front of what is left
+-- ---- what is at the front of what is left
 
 no-key-first : (keys : List (Bytes × KeyState)) (p : Piece) (rest : List Piece) → nat_le (depth p) 0 ≡ false → flat_map pieces_of_key keys ≡ p ∷ rest → ⊥
 no-key-first keys p rest deep e = false≢true (sym deep ∙ ap (is_up_to 0) (sym e) ∙ keys-alone keys)
@@ -183,7 +183,7 @@ module _ (content before : Content) (k : KeySoFar) (rest : List Piece) (last : L
   past-keys : is_past_names k.key.0 before ≡ true
   past-keys = subst (λ n. is_past_names n before ≡ true) (sym last.name) (before-entry (slice_cmp nat_cmp) content before.entries last.key last.later last.split)
 
-  -- and has its history, where it has all its entries
+  -- and has its history, if it has all its entries
   history-at : last.more ≡ [] → is_history_after (last_id k.key.1.stream.entries) k.key.1.stream.top k.key.1.stream.added ≡ true
   history-at none =
       let stream = restorable.stream in
@@ -215,7 +215,7 @@ module _ (content before : Content) (k : KeySoFar) (rest : List Piece) (last : L
           none rs (inl e) = let no = sym is ∙ e in absurd (cc)
           none rs (inr e) = rw e refl
 
-    -- a row that is left may be put
+    -- a row that is left may be inserted
     row-next : (id : Id) (row : RowState) (more : PendingEntries) → in_group.members.consumers ≡ [] → in_group.members.rows ≡ (id, row) ∷ more → is_next_row row.consumer id g.1 ≡ true
     row-next id row more none is =
         let whole = in_group.group.1 in

@@ -1,4 +1,4 @@
--- What events leave is restorable.
+-- The content after events is restorable.
 use Rattle.std.proofs.Common.{◌≡◌, ℕ, ◌≤◌, Bool, true, false, not, ◌&&◌, nat_le, List, [], ◌∷◌, ◌++◌, Some, refl, sym, ◌∙◌, arith, append_assoc}
 use Rattle.std.specs.List.{AllByRecursion}
 use Rattle.std.proofs.lemmas.Bool.Decides.{nat_tests}
@@ -29,7 +29,7 @@ history-of content past [] is = (past, is)
 history-of content past (e ∷ events) is =
     history-of (after content e) ((event_moment e, event_command e) ∷ past) events (content-step past content (event_moment e) (event_command e) is)
 
--- what holds of each value that is found holds of all
+-- a property of each value that is found is one of all
 module _ {X : Type 0} (m : NameMap X) (P : X → Type 0) (found : (name : Bytes) (x : X) → get m name ≡ Some x → P x) where
   all-behind : (ds es : List (Bytes × X)) → m.entries ≡ ds ++ es → AllByRecursion (λ e. P e.1) es
   all-behind ds [] is = tt

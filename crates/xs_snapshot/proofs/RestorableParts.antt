@@ -1,4 +1,4 @@
--- What is restorable stays so while it is put together.
+-- What is restorable stays so while it is built.
 use Rattle.std.proofs.Common.{◌≡◌, ℕ, Bool, true, false, cond, not, List, [], ◌∷◌, ◌++◌, Option, Some, is_some, sym, ap, subst, ◌∙◌, refl}
 use Rattle.std.specs.List.{AllByRecursion}
 use Rattle.std.proofs.lemmas.Bool.{false≢true}
@@ -60,7 +60,7 @@ group-row id row group next is =
       by name x named true h = subst (λ n. has_name group.consumers n ≡ true) (is_same_name-eq row.consumer name h) named
       by name x named false h = is.of_consumers name x h
 
--- whether a row was put or not
+-- whether a row was inserted or not
 pub row-so_far : (result : Result Bool AllocError) (last : Option Bytes) (old new : GroupState) (id : Id) (row : RowState) → IsGroupSoFar last old → IfOk result (λ put. put ≡ is_next_row row.consumer id old)
     → IfOk result (λ put. put ≡ true → new ≡ with_row id row old) → IfOk result (λ put. put ≡ false → new ≡ old) → OnErr result (new ≡ old) → IsGroupSoFar last new
 row-so_far (Ok true) last old new id row so_far next put refused err = subst (IsGroupSoFar last) (sym (put refl)) (record { last_is = so_far.last_is; restorable = group-row id row old (sym next) so_far.restorable })
@@ -91,7 +91,7 @@ pub all-more : {A : Type 0} (P : A → Type 0) (xs : List A) (x : A) → AllByRe
 all-more P [] x all one = (one, tt)
 all-more P (y ∷ ys) x all one = (all.0, all-more P ys x all.1 one)
 
--- whether a value was put behind the others or not
+-- whether a value was inserted after the others or not
 pub all-pushed : {X : Type 0} (P : X → Type 0) (result : Result Bool AllocError) (old new : NameMap X) (e : Bytes × X) → IfOk result (λ put. put ≡ true → new.entries ≡ old.entries ++ e ∷ [])
     → IfOk result (λ put. put ≡ false → new ≡ old) → OnErr result (new ≡ old) → P e.1 → AllByRecursion (λ x. P x.1) old.entries → AllByRecursion (λ x. P x.1) new.entries
 all-pushed {X} P (Ok true) old new e put refused err one all = subst (AllByRecursion (λ (x : Bytes × X). P x.1)) (sym (put refl)) (all-more (λ (x : Bytes × X). P x.1) old.entries e all one)

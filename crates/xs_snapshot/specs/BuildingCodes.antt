@@ -1,4 +1,4 @@
--- Codes of what was read so far, by which a proof tells its values apart.
+-- Codes of what was read so far, by which a proof distinguishes its values.
 use Rattle.std.specs.Prelude.{Option, refl}
 use Rattle.std.specs.Coded.{Coded, code_by, coded×, coded_list, coded_option, coded_ℕ}
 use Rattle.xs_group.specs.GroupState.{GroupState}

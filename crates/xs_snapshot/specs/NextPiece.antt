@@ -20,7 +20,7 @@ last_name [] = None
 last_name (e ∷ []) = Some e.0
 last_name (e ∷ f ∷ es) = last_name (f ∷ es)
 
--- the group may have this consumer next: it has no row yet, and the name is above those of all its consumers
+-- the group may get this consumer next: it has no row yet, and the name is above those of all its consumers
 abbrev pub is_next_consumer : Bytes → GroupState → Bool
 is_next_consumer name group = (length group.rows.entries == 0) && is_past_names name group.consumers
 
@@ -28,18 +28,18 @@ is_next_consumer name group = (length group.rows.entries == 0) && is_past_names 
 abbrev pub last_id : Entries → Id
 last_id entries = last_of zero_id (ids_of entries)
 
--- the key may have an entry with this id next: it has no group yet, and the id is above that of its last entry
+-- the key may get an entry with this id next: it has no group yet, and the id is above that of its last entry
 abbrev pub is_next_entry : Id → KeySoFar → Bool
 is_next_entry id k = is_none k.group && is_below (last_id k.key.1.stream.entries) id
 
--- the last group of the key may have this consumer, or a row of this consumer at this id, next
+-- the last group of the key may get this consumer, or a row of this consumer at this id, next
 abbrev pub has_next_consumer : Bytes → KeySoFar → Bool
 has_next_consumer name k = option_map_or (λ g. is_next_consumer name g.1) k.group false
 
 abbrev pub has_next_row : Bytes → Id → KeySoFar → Bool
 has_next_row name id k = option_map_or (λ g. is_next_row name id g.1) k.group false
 
--- what may be there has a name above those of a map
+-- the name of a value, if there is one, is above those of a map
 abbrev pub is_past_if_there : {X Y : Type 0} → Option (Bytes × X) → NameMap Y → Bool
 is_past_if_there None m = true
 is_past_if_there (Some e) m = is_past_names e.0 m
@@ -63,7 +63,7 @@ may_follow b (of_group name cursor) = option_map_or (λ k. is_past_if_there k.gr
 may_follow b (of_consumer name moment) = option_map_or (has_next_consumer name) b.key false
 may_follow b (of_row id row) = option_map_or (has_next_row row.consumer id) b.key false
 
--- other groups of a key, and other keys, stand before the last one only
+-- other groups of a key, and other keys, come only before the last one
 abbrev pub AreGroupsFirst : KeySoFar → Type 0
 AreGroupsFirst k = IfNone k.group (k.key.1.groups.entries ≡ [])
 

@@ -1,4 +1,4 @@
--- Which contents a snapshot gives back.
+-- Which contents can be restored from a snapshot.
 use Rattle.std.specs.Prelude.{◌≡◌, ℕ, true, List}
 use Rattle.std.specs.List.{AllByRecursion}
 use Rattle.xs_stream.specs.Id.{zero_id}

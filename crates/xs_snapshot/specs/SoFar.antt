@@ -1,4 +1,4 @@
--- What holds inside of a group, a key and a keyspace that aren't whole yet.
+-- What is true within a group, a key and a keyspace that aren't complete yet.
 use Rattle.std.specs.Prelude.{◌≡◌, List, [], Option, IfNone, MatchOption}
 use Rattle.std.specs.List.{AllByRecursion}
 use Rattle.xs_stream.specs.Id.{zero_id}
@@ -20,7 +20,7 @@ pub record IsGroupSoFar (last_consumer : Option Bytes) (group : GroupState) : Ty
   pub last_is : last_consumer ≡ last_name group.consumers.entries
   pub restorable : IsRestorableGroup group
 
--- the top of the stream is the id of the last entry; other groups stand before the last one only; and the entries and
+-- the top of the stream is the id of the last entry; other groups come only before the last one; and the entries and
 -- these groups are restorable
 pub record IsKeySoFar
     (stream : StreamInMemory) (groups : NameMap GroupState) (group : Option (Bytes × GroupState)) : Type 0 where
@@ -30,7 +30,7 @@ pub record IsKeySoFar
   pub ascends : Ascends (ids_of stream.entries)
   pub restorable : AreRestorableGroups groups.entries
 
--- other keys stand before the last one only, and are restorable
+-- other keys come only before the last one, and are restorable
 pub record IsKeyspaceSoFar (content : Content) (key : Option KeySoFar) : Type 0 where
   pub in_order : MatchOption key (content.entries ≡ []) AreGroupsFirst
   pub restorable : IsRestorable content

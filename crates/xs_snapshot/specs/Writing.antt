@@ -1,4 +1,4 @@
--- A snapshot of a keyspace on its way to a tape.
+-- A snapshot of a keyspace that is being written to a tape.
 use Rattle.std.specs.Prelude.{◌≡◌, ℕ, ◌+◌, ◌<◌, ◌^◌, false, List, ◌++◌, map, length, Option, IfSome}
 use Rattle.std.specs.List.{AllByRecursion, flat_map}
 use Rattle.xs_stream.specs.declared.id.Id.{Id}
@@ -28,20 +28,20 @@ pieces_of_groups groups = flat_map pieces_of_group groups
 
 -- ---- what is put
 
--- whatever pieces a writer had put, these are behind them now, and no call of the tape has failed
+-- whatever pieces a writer had put, these follow them now, and no call of the tape has failed
 pub record HasPutMore (old new : SnapshotWriting) (more : List Piece) : Type 0 where
   pub puts : (number : ℕ) (closed : List (List ℕ)) (moment : Option ℕ) (pieces : List Piece) →
       HasPut number closed old moment pieces → HasPut number closed new moment (pieces ++ more)
   pub count_is : new.count ≡ old.count + length more
   pub sound : new.writing.broken ≡ false
 
--- behind so many pieces these can be put: their words are few and short, and a number of 64 bits counts all pieces
+-- after this many pieces these can be put: their words are few and short, and a number of 64 bits can count all pieces
 pub record CanBePut (before : ℕ) (pieces : List Piece) : Type 0 where
   pub short : AllByRecursion (λ piece. AreShort (values_of piece)) pieces
   pub few : before + length pieces < 2 ^ 64
 
--- behind these closed files the last file of a tape is a snapshot of this state, all of it kept, and the log behind it
--- has this number, where the tape tells what it holds
+-- after these closed files the last file of a tape is a snapshot of this state, all of it kept, and the log after it
+-- has this number, if the content of the tape is known
 abbrev pub KeepsSnapshot : ℕ → List (List ℕ) → Option TapeBytes → ServerState → Type 0
 KeepsSnapshot number closed holds state =
     IfSome holds (λ tape. (tape.closed ≡ closed) × IsSnapshotFile number tape.written state

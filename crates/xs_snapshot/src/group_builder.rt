@@ -1,4 +1,4 @@
-//! A group that is put together of its pieces.
+//! A group that is built from its pieces.
 ghost use Rattle.std.specs.Prelude.{◌≡◌, ◌++◌, ◌∷◌, [], true, false, IfOk, OnErr, None};
 ghost use Rattle.xs_group.specs.GroupState.{new_group};
 ghost use Rattle.xs_group.specs.NextRow.{is_next_row};
@@ -38,7 +38,7 @@ impl Model for GroupBuilder {
 }
 
 impl GroupBuilder {
-    /// A group of no consumers.
+    /// A group without consumers.
     pub(crate) fn new(alloc: Global, name: Bytes, cursor: Id) -> Self
         ensures { result ≡ (name, new_group cursor) }
     {
@@ -59,8 +59,8 @@ impl GroupBuilder {
         }
     }
 
-    /// Puts a consumer behind the others, and says whether it did. It refuses, and changes nothing, a consumer behind a
-    /// row, and a name that isn't above those of all consumers.
+    /// Appends a consumer, and returns whether it did. It refuses, and changes nothing, if the group has a row, or if
+    /// the name isn't above those of all consumers.
     pub(crate) fn put_consumer(
         &mut self,
         alloc: Global,
@@ -81,8 +81,8 @@ impl GroupBuilder {
         Ok(true)
     }
 
-    /// Puts a pending row behind the others, and says whether it did. It refuses, and changes nothing, a consumer that
-    /// isn't there, an id above the cursor, and an id that isn't above those of all rows.
+    /// Appends a pending row, and returns whether it did. It refuses, and changes nothing, if the consumer isn't in the
+    /// group, or if the id is above the cursor or not above those of all rows.
     pub(crate) fn put_row(
         &mut self,
         alloc: Global,

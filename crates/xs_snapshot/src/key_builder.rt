@@ -1,4 +1,4 @@
-//! A key that is put together of its pieces.
+//! A key that is built from its pieces.
 ghost use Rattle.std.specs.Prelude.{◌≡◌, ◌++◌, ◌∷◌, [], true, None, false, is_some, IfOk, IfSome, OnErr};
 ghost use Rattle.std.specs.List.{flat_map};
 ghost use Rattle.xs_bytes.specs.SortedMap.{empty};
@@ -55,7 +55,7 @@ impl Model for KeyBuilder {
     ghost invariant = { λ b. IsKeySoFar b.stream b.groups b.group };
 }
 
-/// Puts the last group behind the others, if there is one, and says whether its name is above theirs.
+/// Appends the last group, if there is one, to the others. Returns whether its name is above theirs.
 fn push_group(groups: &mut Groups, last: Option<GroupBuilder>) -> Result<bool, AllocError>
     ensures next { IfOk result (λ put. put ≡ is_past_if_there last groups.old) }
     ensures behind { IfOk result (λ put. put ≡ true → flat_map pieces_of_group groups.new.entries
@@ -70,8 +70,8 @@ fn push_group(groups: &mut Groups, last: Option<GroupBuilder>) -> Result<bool, A
 }
 
 impl KeyBuilder {
-    /// A key of no entries and no groups, with the top id that it is to have, how many entries were ever added to it,
-    /// and the greatest id that was ever deleted from it.
+    /// A key without entries and groups, with the top id that it will have, the number of entries that were ever added
+    /// to it, and the greatest id that was ever deleted from it.
     pub(crate) fn new(alloc: Global, name: Bytes, top: Id, added: u128, deleted: Id) -> Self
         ensures first { AreGroupsFirst result }
         ensures value { result ≡ record {
@@ -96,8 +96,8 @@ impl KeyBuilder {
         }
     }
 
-    /// Puts an entry behind the others, and says whether it did. It refuses, and changes nothing, an entry behind a
-    /// group, and an id that isn't above those of all entries.
+    /// Appends an entry, and returns whether it did. It refuses, and changes nothing, if the key has a group, or if the
+    /// id isn't above those of all entries.
     pub(crate) fn put_entry(&mut self, id: Id, fields: &[Field]) -> Result<bool, AllocError>
         ensures next { IfOk result (λ put. put ≡ is_next_entry id self.old) }
         ensures behind { IfOk result (λ put. put ≡ true → pieces_of_key_so_far self.new
@@ -113,8 +113,7 @@ impl KeyBuilder {
         Ok(true)
     }
 
-    /// Puts a group of no consumers behind the others, and says whether the name of the one before it is above those of
-    /// the others before it.
+    /// Appends a group without consumers. Returns whether the name of the group before it is above those of the others.
     pub(crate) fn put_group(
         &mut self,
         alloc: Global,
@@ -130,8 +129,8 @@ impl KeyBuilder {
         push_group(&mut self.groups, last)
     }
 
-    /// Puts a consumer into the last group, and says whether it did, as `GroupBuilder::put_consumer`. It refuses it if
-    /// there is no group.
+    /// Appends a consumer to the last group, and returns whether it did, like `GroupBuilder::put_consumer`. It refuses
+    /// if there is no group.
     pub(crate) fn put_consumer(
         &mut self,
         alloc: Global,
@@ -149,7 +148,7 @@ impl KeyBuilder {
         }
     }
 
-    /// Puts a pending row into the last group, and says whether it did, as `GroupBuilder::put_row`. It refuses it if
+    /// Appends a pending row to the last group, and returns whether it did, like `GroupBuilder::put_row`. It refuses if
     /// there is no group.
     pub(crate) fn put_row(
         &mut self,
@@ -171,8 +170,8 @@ impl KeyBuilder {
         }
     }
 
-    /// The key with its name. None if the name of its last group isn't above those of the others, if its top is below
-    /// its last entry, or if fewer entries than were added had ids up to its top.
+    /// The name of the key, and the key. None if the name of its last group isn't above those of the others, if its top
+    /// is below its last entry, or if there aren't enough ids up to its top for all entries that were added.
     pub(crate) fn finish(self) -> Result<Option<(Bytes, Slot)>, AllocError>
         ensures whole { IfOk result (λ found. is_some found ≡ may_end self) }
         ensures name { IfOk result (λ found. IfSome found (λ key. key.0 ≡ self.key.0)) }

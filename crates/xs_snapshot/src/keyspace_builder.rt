@@ -1,4 +1,4 @@
-//! A keyspace that is put together of the pieces of a snapshot.
+//! A keyspace that is built from the pieces of a snapshot.
 ghost use Rattle.std.specs.Prelude.{◌≡◌, ◌++◌, ◌∷◌, [], true, None, is_some, IfOk, IfSome};
 ghost use Rattle.xs_bytes.specs.SortedMap.{empty};
 ghost use Rattle.xs_replay.specs.Pieces.{of_key, of_entry, of_group, of_consumer, of_row, pieces_of};
@@ -15,9 +15,8 @@ use xs_keys::Keyspace;
 use xs_log::Piece;
 use xs_stream::{Field, Id, Moment};
 
-/// A keyspace that is put together of the pieces of a snapshot, one after the other. A contract sees what it has so
-/// far. It never searches: each piece goes behind the last one. After an error or a refusal nothing more may be asked
-/// of it.
+/// A keyspace that is built from the pieces of a snapshot, one after the other. A contract sees what it has so far. It
+/// never searches: each piece goes after the last one. After an error or a refusal it must not be used any more.
 #[derive(Drop)]
 pub struct KeyspaceBuilder {
     alloc: Global,
@@ -41,7 +40,7 @@ impl Model for KeyspaceBuilder {
     ghost invariant = { λ b. IsKeyspaceSoFar b.keyspace b.key };
 }
 
-/// Puts the last key behind the others, if there is one, and says whether it is whole and its name is above theirs.
+/// Appends the last key, if there is one, to the others. Returns whether it is complete and its name is above theirs.
 fn push_key(keyspace: &mut Keyspace, last: Option<KeyBuilder>) -> Result<bool, AllocError>
     ensures next { IfOk result (λ put. put
         ≡ is_whole (record { content = keyspace.old; key = last })) }
@@ -59,7 +58,7 @@ fn push_key(keyspace: &mut Keyspace, last: Option<KeyBuilder>) -> Result<bool, A
 }
 
 impl KeyspaceBuilder {
-    /// Of no pieces.
+    /// A builder without pieces.
     pub fn new(alloc: Global) -> Self
         ensures value { result ≡ record { content = empty; key = None } }
         ensures order { IsInOrder result }
@@ -71,10 +70,10 @@ impl KeyspaceBuilder {
         }
     }
 
-    /// Puts a piece behind the others, and says whether it did. It refuses a piece that no content has behind these: an
-    /// entry behind a group, a consumer behind a row, ids or names that don't ascend, a row of a consumer that isn't
-    /// there or past the cursor of its group, an entry or a group before any key, a consumer or a row before any group,
-    /// and a key or a group behind one that isn't whole.
+    /// Appends a piece, and returns whether it did. It refuses a piece that can't follow those before it in any
+    /// content: an entry after a group, a consumer after a row, ids or names that don't ascend, a row of a consumer
+    /// that isn't in the group or above the cursor of the group, an entry or a group before any key, a consumer or a
+    /// row before any group, and a key or a group after one that isn't complete.
     pub fn put(&mut self, piece: Piece) -> Result<bool, AllocError>
         ensures next { IfOk result (λ put. put ≡ may_follow self.old (piece_of piece)) }
         ensures behind { IfOk result (λ put. put ≡ true → pieces_so_far self.new
@@ -100,7 +99,7 @@ impl KeyspaceBuilder {
         }
     }
 
-    /// The keyspace, or None if the last key isn't whole.
+    /// The keyspace. None if the last key isn't complete.
     pub fn finish(self) -> Result<Option<Keyspace>, AllocError>
         ensures whole { IfOk result (λ found. is_some found ≡ is_whole self) }
         ensures pieces { IfOk result (λ found. IfSome found (λ keyspace. pieces_of keyspace ≡ pieces_so_far self)) }

@@ -1,4 +1,4 @@
-//! Laws of what is read of a snapshot. Each is a function that does nothing.
+//! Laws of reading snapshots. Each is a function with an empty body.
 ghost use Rattle.std.specs.Prelude.{List};
 ghost use Rattle.std.specs.List.{AllByRecursion};
 ghost use Rattle.xs_bytes.specs.SortedMap.{empty};
@@ -10,13 +10,13 @@ ghost use Rattle.xs_replay.specs.Ranges.{EventFits};
 ghost use Rattle.xs_snapshot.specs.NextPiece.{AreFitting};
 ghost use Rattle.xs_snapshot.specs.Restorable.{IsRestorable};
 
-/// Of the pieces of a restorable content each may follow those before it, and the end may follow the last.
+/// Each of the pieces of a restorable content may follow those before it, and the end may follow the last.
 pub fn the_pieces_of_a_restorable_content_fit()
     ensures { (content : Content) → IsRestorable content → AreFitting (pieces_of content) }
 {}
 
-/// What events leave is restorable, if their numbers are in range: so a snapshot of it is never refused, unless memory,
-/// the source or a number of 64 bits runs out (`read_snapshot`).
+/// The content after events is restorable, if their numbers are in range. So a snapshot of it is never refused, unless
+/// memory, the source or a number of 64 bits runs out (`read_snapshot`).
 pub fn what_events_leave_is_restorable()
     ensures { (events : List Event) → AllByRecursion EventFits events → IsRestorable (contents_after empty events) }
 {}

@@ -1,4 +1,4 @@
-//! A keyspace is read from a snapshot.
+//! Reads a keyspace from a snapshot.
 ghost use Rattle.std.specs.Prelude.{◌≡◌, ◌++◌, ◌∷◌, [], ℕ, List, Some, true, IfOk, IfErr, OnOk};
 ghost use Rattle.xs_io.specs.Passing.{known_by};
 ghost use Rattle.xs_replay.specs.After.{ServerState};
@@ -17,7 +17,7 @@ use xs_keys::Keyspace;
 use xs_log::{Piece, SnapshotFault, SnapshotReader};
 use xs_stream::Moment;
 
-/// Puts the next piece, behind so many.
+/// Appends the next piece, after `count` others.
 fn put_next(builder: &mut KeyspaceBuilder, piece: Piece, count: u64) -> Result<(), SnapshotFault>
     ensures ok { OnOk result (pieces_so_far builder.new ≡ pieces_so_far builder.old ++ piece_of piece ∷ []) }
     ensures order { IsInOrder builder.new }
@@ -30,7 +30,7 @@ fn put_next(builder: &mut KeyspaceBuilder, piece: Piece, count: u64) -> Result<(
     }
 }
 
-/// The keyspace of so many pieces, all that there are.
+/// The keyspace of all pieces, `count` in number.
 fn finish(builder: KeyspaceBuilder, count: u64) -> Result<Keyspace, SnapshotFault>
     ensures ok { IfOk result (λ keyspace. pieces_of keyspace ≡ pieces_so_far builder) }
     ensures restorable { IfOk result IsRestorable }
@@ -43,7 +43,7 @@ fn finish(builder: KeyspaceBuilder, count: u64) -> Result<Keyspace, SnapshotFaul
     }
 }
 
-/// Reads the snapshot with this number to its end. It gives the keyspace, and the moment of the last event before the
+/// Reads the snapshot with this number to its end. Returns the keyspace, and the moment of the last event before the
 /// snapshot, if there was one.
 ///
 /// # Errors
@@ -53,10 +53,10 @@ pub fn read_snapshot<R: Source + Drop>(
     number: u64,
     source: R,
 ) -> Result<(Keyspace, Option<Moment>), SnapshotFault>
-    // All bytes of the source are a snapshot of what is given.
+    // All bytes of the source are a snapshot of what is returned.
     ensures ok { (bytes : List ℕ) → known_by R.rest source ≡ Some bytes →
         IfOk result (λ read. IsSnapshotFile number bytes (record { content = read.0; moment = read.1 })) }
-    // So it is of a source that doesn't tell what it has: what was read is a snapshot.
+    // If the content of the source isn't known, what was read is a snapshot all the same.
     ensures whole { IfOk result (λ read. (bytes : List ℕ)
         × IsSnapshotFile number bytes (record { content = read.0; moment = read.1 })) }
     // Its content is restorable.

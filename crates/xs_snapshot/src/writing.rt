@@ -1,5 +1,5 @@
-//! Writes a snapshot of a keyspace: each key, then its entries and its groups, and behind each group its consumers and
-//! its pending rows. What is held is lent, so a walk takes no memory for it.
+//! Writes a snapshot of a keyspace: each key, then its entries and its groups, and after each group its consumers and
+//! its pending rows. The content is lent, so a walk takes no memory for it.
 ghost use Rattle.std.specs.Prelude.{◌≡◌, ℕ, List, [], Option, false, true, Err, IfOk, OnOk};
 ghost use Rattle.xs_replay.specs.After.{ServerState};
 ghost use Rattle.xs_replay.specs.Pieces.{pieces_of_group, pieces_of_key, pieces_of};
@@ -132,7 +132,7 @@ fn put_key<T: Tape + Drop>(
     put_groups(writer, &slot.groups)
 }
 
-/// Puts the keys of a keyspace with what they hold, in the order of their names.
+/// Puts the keys of a keyspace with their content, in the order of their names.
 ///
 /// # Errors
 /// A `WriteFault`: out of memory; or the tape failed; or a piece has too many words, or too long ones, or there are
@@ -145,7 +145,7 @@ fn put_keys<T: Tape + Drop>(
     ensures more { OnOk result (HasPutMore writer.old writer.new (pieces_of keyspace.now)) }
     ensures device { result ≡ Err WriteFault.Device → writer.new.writing.broken ≡ true }
     ensures long { result ≡ Err WriteFault.TooLong → CanBePut writer.old.count (pieces_of keyspace.now) → ⊥ }
-    // What was put can be put together again.
+    // What was put can be restored.
     ensures restorable { OnOk result (IsRestorable keyspace.now) }
 {
     for (name, slot) in keyspace.iter() {
@@ -154,10 +154,10 @@ fn put_keys<T: Tape + Drop>(
     Ok(())
 }
 
-/// Puts a keyspace behind the header of a snapshot, then the end, and has the tape keep all.
+/// Puts a keyspace after the header of a snapshot, then the end, and has the tape keep all.
 ///
 /// # Errors
-/// A `WriteFault`, as `put_keys` gives it. Nothing is said of what is kept then.
+/// A `WriteFault`, like that of `put_keys`. It isn't known then what is kept.
 fn complete_snapshot<T: Tape + Drop>(
     writer: &mut SnapshotWriter<T>,
     keyspace: &Keyspace,
@@ -169,19 +169,20 @@ fn complete_snapshot<T: Tape + Drop>(
     ensures sound { OnOk result (writer.new.writing.broken ≡ false) }
     ensures device { result ≡ Err WriteFault.Device → writer.new.writing.broken ≡ true }
     ensures long { result ≡ Err WriteFault.TooLong → CanBePut writer.old.count (pieces_of keyspace.now) → ⊥ }
-    // What is written can be put together again.
+    // What is written can be restored.
     ensures restorable { OnOk result (IsRestorable keyspace.now) }
 {
     put_keys(writer, keyspace)?;
     writer.end()
 }
 
-/// Writes a snapshot of a keyspace to the last file of a tape, which is empty, has the tape keep it, and gives the tape
-/// back. The number is that of the log behind the snapshot, and the moment that of the last event before it, if there
-/// was one.
+/// Writes a snapshot of a keyspace to the last file of a tape, which has to be empty, has the tape keep it, and returns
+/// the tape. The number is that of the log after the snapshot, and the moment that of the last event before it, if
+/// there was one.
 ///
 /// # Errors
-/// A `WriteFault`, as `put_keys` gives it. The file is no snapshot then, and the tape is gone.
+/// A `WriteFault`: out of memory; or the tape failed; or a piece has too many words, or too long ones, or there are
+/// 2^64 pieces or more. The file isn't a snapshot then, and the tape is dropped.
 pub fn write_snapshot<T: Tape + Drop>(
     alloc: Global,
     tape: T,
@@ -194,7 +195,7 @@ pub fn write_snapshot<T: Tape + Drop>(
         KeepsSnapshot number closed (T.holds written) (record { content = keyspace.now; moment = moment })) }
     ensures sound { IfOk result (λ written. T.broken written ≡ false) }
     ensures long { result ≡ Err WriteFault.TooLong → CanBePut 0 (pieces_of keyspace.now) → ⊥ }
-    // What is written can be put together again.
+    // What is written can be restored.
     ensures restorable { OnOk result (IsRestorable keyspace.now) }
 {
     let mut writer = SnapshotWriter::begin(alloc, tape, number, moment)?;

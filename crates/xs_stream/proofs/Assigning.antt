@@ -9,11 +9,11 @@ use Rattle.xs_stream.specs.declared.add.AddError.TheVariants.{Small, Exhausted}
 use Rattle.xs_stream.specs.Id.{is_below, is_same_id, greatest_number, greatest_id, id_of_addition, id_of_addition_above}
 use Rattle.xs_stream.specs.Id.{successor}
 
--- later milliseconds are above
+-- an id with later milliseconds is above
 below-later : (m n s t : ℕ) → m < n → is_below (record { ms = m; seq = s }) (record { ms = n; seq = t }) ≡ true
 below-later m n s t h = let e : ltb m n ≡ true = grind (arith, nat_tests) in rw e refl
 
--- so is a later sequence of the same millisecond
+-- and one with a later sequence of the same millisecond
 below-next : (m s t : ℕ) → s < t → is_below (record { ms = m; seq = s }) (record { ms = m; seq = t }) ≡ true
 below-next m s t h =
     let e : ltb m m ≡ false = grind (arith, nat_tests) in

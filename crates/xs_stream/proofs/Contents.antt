@@ -1,4 +1,5 @@
--- The entries of blocks follow their blocks: what a map does to blocks it does to what each of them has.
+-- The entries of blocks follow their blocks: a change of the map of blocks is the same change of their lists of
+-- entries.
 use Rattle.std.proofs.Common.{◌≡◌, Bool, true, false, cond, List, [], ◌∷◌, ◌++◌, length, filter, Option, Some, None}
 use Rattle.std.proofs.Common.{sym, ap, ◌∙◌, refl, suc, Ordering}
 use Rattle.std.specs.Map.{lookup, remove_entry, set_value}
@@ -73,11 +74,11 @@ contents-insert (b ∷ bs) key new = by (contents-insert bs key new) (id_cmp key
   by rest Equal = refl
   by rest Greater = ap (λ cs. (b.0, b.1.entries) ∷ cs) rest
 
--- the block that is lent under a key has the entries that stand there
+-- the block that is lent under a key has the entries of that key
 pub contents-found : (under : Id) (bs : Filed) (block : BlockState) → Some block ≡ lookup (is_same_id under) bs → lookup (is_same_id under) (contents bs) ≡ Some block.entries
 contents-found under bs block found = contents-lookup (is_same_id under) bs ∙ ap (option_map (λ (b : BlockState). b.entries)) (sym found)
 
--- where none is lent, none stands there
+-- if none is lent, there are none
 pub contents-absent : (under : Id) (bs : Filed) → ◌≡◌ {A = Option BlockState} None (lookup (is_same_id under) bs) → lookup (is_same_id under) (contents bs) ≡ None
 contents-absent under bs absent = contents-lookup (is_same_id under) bs ∙ ap (option_map (λ (b : BlockState). b.entries)) (sym absent)
 

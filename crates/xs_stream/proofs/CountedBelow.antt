@@ -1,4 +1,4 @@
--- How many entries have ids below one: all of the blocks that are filed below it, and some of the next block.
+-- The number of entries with ids below one: all of the blocks that are filed below it, and some of the next block.
 use Rattle.std.proofs.Common.{◌≡◌, ◌+◌, Bool, true, false, not, cond, List, [], ◌∷◌, ◌++◌, length, filter}
 use Rattle.std.proofs.Common.{sym, ap, ◌∙◌, refl, append_assoc, arith, length-append}
 use Rattle.std.proofs.lemmas.List.Elements.{filter-append}
@@ -42,7 +42,7 @@ module _ (low : Id) where
       ap length (ap below (append_assoc b.1 (entries_of_blocks bs) newest) ∙ filter-append (λ e. is_below e.0 low) b.1 (entries_of_blocks bs ++ newest))
       ∙ length-append (below b.1) (below (entries_of_blocks bs ++ newest))
 
-  -- a count of the blocks that are filed below, and a search of the others, miss none
+  -- a count of the blocks that are filed below and a search of the others miss no entry
   pub below-walk : (bs : Blocks) (newest : Entries) → AreFiled bs newest
       → length (below (entries_of_blocks bs ++ newest)) ≡ length (entries_of_blocks (blocks_below bs)) + length (below (entries_of_blocks (blocks_from bs) ++ newest))
   below-walk [] newest filed = omega arith
@@ -54,7 +54,7 @@ module _ (low : Id) where
     by rest true is = omega (arith, rest, below-block b bs newest, ap length (all-below b.0 b.1 filed.0.up_to_id is), length-append b.1 (entries_of_blocks (blocks_below bs)))
     by rest false is = omega (arith, rest, below-block b bs newest, below-block b (blocks_from bs) newest)
 
-  -- of those others only the first block has any
+  -- among those others only the first block has any
   pub below-first : (bs : Blocks) (b : Id × Entries) (left : Blocks) (newest : Entries) → AreFiled (b ∷ left) newest → blocks_from bs ≡ b ∷ left
       → length (below (entries_of_blocks (blocks_from bs) ++ newest)) ≡ length (below b.1)
   below-first bs b left newest filed met =

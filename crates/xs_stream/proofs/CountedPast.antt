@@ -36,7 +36,7 @@ module _ (low : Id) where
   none-up_to under [] up h = refl
   none-up_to under (e ∷ es) up h = rw (up_to-below under e.0 low up.0 h) (none-up_to under es up.1 h)
 
-  -- those of a block, and of what is behind it
+  -- those of a block, and of what follows it
   from-block : (b : Id × Entries) (bs : Blocks) (newest : Entries) → from low (entries_of_blocks (b ∷ bs) ++ newest) ≡ from low b.1 ++ from low (entries_of_blocks bs ++ newest)
   from-block b bs newest = ap (from low) (append_assoc b.1 (entries_of_blocks bs) newest) ∙ filter-append (λ e. not (is_below e.0 low)) b.1 (entries_of_blocks bs ++ newest)
 
@@ -58,7 +58,7 @@ module _ (low : Id) where
     by rest true is k = rest k
     by rest false is k = let same : c ≡ b = cc in ap (λ x. is_below x.0 low) (sym same) ∙ is
 
--- what is above a cursor is what its successor has, or what is above that
+-- an entry above a cursor has the id of the cursor's successor, or one above that
 pub counted-past : (cursor low : Id) (es : Entries) → next_id cursor ≡ Some low → AllIds (ids_of es) → length (from low es) ≡ count_above cursor (ids_of es)
 counted-past cursor low [] h fit = refl
 counted-past cursor low (e ∷ es) h fit = rw (from-past cursor low e.0 h fit.0) (by (is_below cursor e.0) (counted-past cursor low es h fit.1)) where

@@ -1,4 +1,4 @@
--- The first entries of blocks, and how they go.
+-- The first entries of blocks, and how they are removed.
 use Rattle.std.proofs.Common.{◌≡◌, ℕ, ◌+◌, ◌-◌, ◌<◌, ◌≤◌, suc, zero, true, false, not, List, [], ◌∷◌, ◌++◌, length, filter}
 use Rattle.std.proofs.Common.{drop, Option, Some, None, sym, ap, ◌∙◌, refl, arith, append_assoc, subst, length-append}
 use Rattle.std.proofs.lemmas.List.{append-nil, drop-append-le, length-drop}
@@ -21,7 +21,7 @@ Entries = List (Id × List Field)
 abbrev Blocks : Type 0
 Blocks = List (Id × List (Id × List Field))
 
--- what stands first begins the list
+-- the first element begins the list
 pub first-splits : {X : Type 0} (xs : List X) (x : X) → slice_get xs 0 ≡ Some x → (rest : List X) × (xs ≡ x ∷ rest)
 first-splits [] x h = let no = h in absurd (cc)
 first-splits (y ∷ ys) x h = let same : y ≡ x = cc in (ys, ap (λ z. z ∷ ys) same)
@@ -41,11 +41,11 @@ drop-past (suc n) (x ∷ xs) ys h =
     let less : suc n - suc (length xs) ≡ n - length xs = omega arith in
     drop-past n xs ys (omega arith) ∙ sym (ap (λ k. drop k ys) less)
 
--- a block that goes whole
+-- a block that is removed completely
 pub drop-popped : (count : ℕ) (es : Entries) (bs : Blocks) (newest : Entries) → length es ≤ count → drop (count - length es) (entries_of_blocks bs ++ newest) ≡ drop count ((es ++ entries_of_blocks bs) ++ newest)
 drop-popped count es bs newest h = sym (ap (drop count) (append_assoc es (entries_of_blocks bs) newest) ∙ drop-past count es (entries_of_blocks bs ++ newest) h)
 
--- a block of which some entries go
+-- a block of which some entries are removed
 pub drop-within : (count : ℕ) (es : Entries) (bs : Blocks) (newest : Entries) → count ≤ length es → (drop count es ++ entries_of_blocks bs) ++ newest ≡ drop count ((es ++ entries_of_blocks bs) ++ newest)
 drop-within count es bs newest h =
     append_assoc (drop count es) (entries_of_blocks bs) newest ∙ sym (ap (drop count) (append_assoc es (entries_of_blocks bs) newest) ∙ drop-append-le count es (entries_of_blocks bs ++ newest) h)
@@ -113,7 +113,7 @@ none_later : (low under : Id) (es : Entries) → AllAbove under (ids_of es) → 
 none_later low under [] a h = refl
 none_later low under (e ∷ es) a h = rw (not_below-above under low e.0 h a.0) (none_later low under es a.1 h)
 
--- where the first block isn't filed below an id, only its own entries may be below it
+-- if the first block isn't filed below an id, only its own entries may be below it
 pub counted-first : (low under : Id) (es : Entries) (bs : Blocks) (newest : Entries) → AllAbove under (ids_of (entries_of_blocks bs ++ newest)) → is_below under low ≡ false
     → length (filter (λ e. is_below e.0 low) es) ≡ length (filter (λ e. is_below e.0 low) ((es ++ entries_of_blocks bs) ++ newest))
 counted-first low under es bs newest above h =

@@ -1,4 +1,4 @@
--- Lists of blocks that are filed under ids: which block has an entry, and what an addition and a removal leave.
+-- Lists of blocks that are filed under ids: which block has an entry, and the blocks after an addition and a removal.
 use Rattle.std.proofs.Common.{◌≡◌, ◌+◌, ◌<◌, Bool, true, false, not, cond, List, [], ◌∷◌, ◌++◌, length, filter, Some}
 use Rattle.std.proofs.Common.{None, sym, ap, ◌∙◌, refl, arith, append_assoc, subst, length-append}
 use Rattle.std.specs.Bool.{◌==◌}
@@ -120,7 +120,7 @@ none-filtered p q same (c ∷ cs) h = by (none-filtered p q same cs) (p c.0) ref
   by later true is = let no = rw is at h in cc
   by later false is = rw (← same c.0, is) (later (rw is at h))
 
--- the test of a map's range is that of ours
+-- the test of a map's range is the one here
 from_id : (id x : Id) → range_contains id_cmp (Included id) Unbounded x ≡ not (is_below x id)
 from_id id x = and_yes (is_le (id_cmp id x)) ∙ le-not_below id x
 
@@ -130,7 +130,7 @@ first-from id bs b rest h = first-filtered (range_contains id_cmp (Included id) 
 pub none-from : (id : Id) (bs : Blocks) → entries_between id_cmp (Included id) Unbounded bs ≡ [] → lookup_entry (λ under. not (is_below under id)) bs ≡ None
 none-from id bs h = none-filtered (range_contains id_cmp (Included id) Unbounded) (λ under. not (is_below under id)) (from_id id) bs h
 
--- and so is that of a range behind an id
+-- and so is that of a range after an id
 behind_id : (id x : Id) → range_contains id_cmp (Excluded id) Unbounded x ≡ is_below id x
 behind_id id x = and_yes (is_below id x)
 
@@ -155,7 +155,7 @@ module _ (test : Id → Bool) where
     by rest true is = rw is refl
     by rest false is = rw is rest
 
-  -- under the key that is found stands a block
+  -- there is a block under the key that is found
   pub entry-of_key : (bs : Blocks) (key : Id) → lookup_key test bs ≡ Some key → (es : Entries) × (lookup_entry test bs ≡ Some (key, es))
   entry-of_key [] key h = let no = h in absurd (cc)
   entry-of_key (b ∷ bs) key h = by (entry-of_key bs key) (test b.0) refl where
@@ -191,7 +191,7 @@ first-entry (c ∷ cs) b newest filed h = by c.1 refl filed.0.has_entries where
 
 -- ---- a removal
 
--- the blocks once an entry is out: its block goes with its last entry
+-- the blocks after an entry is removed: its block is removed with its last entry
 abbrev pub blocks_without : Id → Blocks → Blocks
 blocks_without id [] = []
 blocks_without id (b ∷ bs) =
@@ -214,7 +214,7 @@ module _ (id : Id) where
         let same : b ≡ (under, es) = cc in
         rw (same, is_same_id-refl under) refl
 
-  -- an entry's block with one entry less, where it has others
+  -- the block of an entry with one entry less, if it has others
   pub set-without : (bs : Blocks) (under : Id) (es : Entries) (f : Id × List Field) (fs : Entries) → lookup_entry (λ k. not (is_below k id)) bs ≡ Some (under, es) → remove_entry (is_same_id id) es ≡ f ∷ fs
       → set_value (is_same_id under) bs (f ∷ fs) ≡ blocks_without id bs
   set-without [] under es f fs h left = let no = h in cc
@@ -232,7 +232,7 @@ module _ (id : Id) where
         let key : b.0 ≡ under = ap (λ (c : Id × Entries). c.0) same in
         rw (is, own, key, is_same_id-refl under) refl
 
-  -- or no block, where it has no others
+  -- or no block, if it has no others
   pub removed-without : (bs : Blocks) (under : Id) (es : Entries) → lookup_entry (λ k. not (is_below k id)) bs ≡ Some (under, es) → remove_entry (is_same_id id) es ≡ []
       → remove_entry (is_same_id under) (set_value (is_same_id under) bs []) ≡ blocks_without id bs
   removed-without [] under es h left = let no = h in cc
@@ -273,7 +273,7 @@ module _ (id : Id) where
         none_counted : (es : Entries) → (length es == 0) ≡ true → length es ≡ 0
         none_counted es h = grind (arith, nat_tests)
 
-  -- as many are gone as from the block
+  -- as many are removed as from the block
   pub length-without : (bs : Blocks) (under : Id) (es : Entries) → lookup_entry (λ k. not (is_below k id)) bs ≡ Some (under, es)
       → length (entries_of_blocks (blocks_without id bs)) + length es ≡ length (entries_of_blocks bs) + length (remove_entry (is_same_id id) es)
   length-without [] under es h = let no = h in absurd (cc)
@@ -350,7 +350,7 @@ module _ (id : Id) where
     by rest true is = rw is (up.0, rest)
     by rest false is = rw is (within (remove_entry (is_same_id id) c.1))
 
-  -- where no block has the entry it may be among the newest
+  -- if no block has the entry, it may be among the newest
   pub listed-newest : (bs : Blocks) (newest : Entries) → lookup_entry (λ k. not (is_below k id)) bs ≡ None → AreFiled bs newest
       → entries_of_blocks bs ++ remove_entry (is_same_id id) newest ≡ remove_entry (is_same_id id) (entries_of_blocks bs ++ newest)
   listed-newest [] newest h filed = refl
@@ -392,7 +392,7 @@ up_to-behind : (x : Id) (es fs : Entries) → AllUpTo x (ids_of (es ++ fs)) → 
 up_to-behind x [] fs a = a
 up_to-behind x (e ∷ es) fs a = up_to-behind x es fs a.1
 
--- a block that is filed under the top goes behind the others
+-- a block that is filed under the top comes after the others
 pub insert-newest : (top : Id) (bs : Blocks) (newest : Entries) → AreFiled bs newest → AllUpTo top (ids_of (entries_of_blocks bs ++ newest)) → (length newest ≡ 0 → ⊥) → insert_entry id_cmp bs top newest ≡ bs ++ (top, newest) ∷ []
 insert-newest top bs [] filed up some = absurd (some refl)
 insert-newest top bs (e ∷ es) filed up some = by bs filed up where
@@ -424,7 +424,7 @@ pub keys-filed : (top : Id) (bs : Blocks) (newest : Entries) → AllUpTo top (ke
 keys-filed top [] newest up = (below-irrefl top, tt)
 keys-filed top (b ∷ bs) newest up = (up.0, keys-filed top bs newest up.1)
 
--- an entry above the top behind the newest
+-- an entry above the top, after the newest
 pub filed-push : (top id : Id) (fields : List Field) (bs : Blocks) (newest : Entries) → AreFiled bs newest → AllUpTo top (keys_of bs) → is_below top id ≡ true → AreFiled bs (newest ++ (id, fields) ∷ [])
 filed-push top id fields [] newest filed up h = tt
 filed-push top id fields (b ∷ bs) newest filed up h =

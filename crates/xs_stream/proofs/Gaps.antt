@@ -4,7 +4,7 @@ use Rattle.std.proofs.lemmas.List.{take-append-drop, take-append-le, drop-append
 use Rattle.std.proofs.lemmas.List.{length-append, length-take, length-drop, drop_all, append-nil}
 use Rattle.std.proofs.Math.Seq.{take-append_seam, drop-append_seam, drop-append-add, drop-drop, take-add}
 
--- what stands before a gap, and behind it, once one more piece has moved
+-- the bytes before a gap and after it, once one more piece has moved
 module _ (bytes new : List ℕ) (at gap piece : ℕ) (inside : at + gap + piece ≤ length bytes)
     (moved : new ≡ take at bytes ++ (take piece (drop (at + gap) bytes) ++ drop (at + piece) bytes)) where
   before : List ℕ
@@ -40,12 +40,12 @@ module _ (bytes new : List ℕ) (at gap piece : ℕ) (inside : at + gap + piece 
       ∙ ap (λ b. take at bytes ++ (take piece (drop (at + gap) bytes) ++ b)) (sym (drop-drop piece (at + gap) bytes))
       ∙ ap (λ b. take at bytes ++ b) (take-append-drop piece (drop (at + gap) bytes))
 
--- behind the last piece nothing is left
+-- after the last piece nothing is left
 pub gap-closed : (bytes : List ℕ) (at gap : ℕ) → at + gap ≡ length bytes → take at bytes ≡ take at bytes ++ drop (at + gap) bytes
 gap-closed bytes at gap all =
     sym (ap (λ b. take at bytes ++ b) (drop_all (at + gap) bytes (omega (arith, all))) ∙ append-nil (take at bytes))
 
--- what stands before a gap, and behind it, once one more piece has moved up
+-- the bytes before a gap and after it, once one more piece has moved up
 module _ (first bytes new : List ℕ) (at gap piece from to : ℕ) (inside : at + gap + piece ≤ length bytes)
     (moved : new ≡ take (at + gap) bytes ++ (take piece (drop at bytes) ++ drop (at + gap + piece) bytes)) where
   place : at + gap ≡ length (take (at + gap) bytes)
@@ -72,7 +72,7 @@ module _ (first bytes new : List ℕ) (at gap piece from to : ℕ) (inside : at 
       ∙ ap (λ b. (take piece (drop at first) ++ take (from - (at + piece)) b) ++ drop to first) (sym (drop-drop piece at first))
       ∙ ap (λ b. b ++ drop to first) (sym (take-add piece (from - (at + piece)) (drop at first)) ∙ ap (λ n. take n (drop at first)) count)
 
--- where a part ends that begins at a place
+-- the end of a part that begins at a place
 pub drop-within : (start from : ℕ) (bytes behind : List ℕ) → start ≤ from → from ≤ length bytes → drop start (take from bytes ++ behind) ≡ take (from - start) (drop start bytes) ++ behind
 drop-within start from bytes behind within inside =
     let count : start + (from - start) ≡ from = omega (arith, within) in

@@ -81,7 +81,7 @@ greatest-more done id [] a = refl
 greatest-more done id (x ∷ xs) a =
     rw (named-more done id x) (met done id x xs a (has_id done x) (is_same_id x id) refl (greatest-more done id xs a) (greatest-more done id xs (greater a x)))
 
--- ---- whether an entry was there
+-- ---- whether an entry was in the list
 
 pub removed-length : (id : Id) (es : List (Id × List Field)) → length (remove_entry (is_same_id id) es) + cond (has_id (ids_of es) id) 1 0 ≡ length es
 removed-length id [] = refl

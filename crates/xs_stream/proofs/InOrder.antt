@@ -1,4 +1,4 @@
--- Lists of entries in the order of their ids: what an addition, a deletion and a trim do to them.
+-- Lists of entries in the order of their ids: how an addition, a deletion and a trim change them.
 use Rattle.std.proofs.Common.{◌≡◌, ℕ, ◌+◌, ◌-◌, ◌<◌, ◌≤◌, suc, Bool, true, false, not, ◌&&◌, ◌||◌, cond, List, [], ◌∷◌}
 use Rattle.std.proofs.Common.{◌++◌, length, filter, drop, take, ◌⊎◌, inl, inr, zero, leb, Option, Some, None, sym, ap}
 use Rattle.std.proofs.Common.{◌∙◌, refl, arith, subst}
@@ -93,7 +93,7 @@ module _ (p : Id × List Field → Bool) where
         | false ↦ ids-filter es a.1
       ]
 
--- what passes for each entry leaves the list as it is
+-- a test that is true of each entry leaves the list unchanged
 pub filter-same_above : (id : Id) (es : List (Id × List Field)) → AllAbove id (ids_of es) → filter (λ e. not (is_same_id id e.0)) es ≡ es
 filter-same_above id [] a = refl
 filter-same_above id (e ∷ es) a = rw (below-not_same id e.0 a.0) (ap (λ rest. e ∷ rest) (filter-same_above id es a.1))
@@ -144,7 +144,7 @@ without-more ids id es a =
 
 -- ---- a trim
 
--- where all are above low or at it, none is below it
+-- if all are above low or at it, none is below it
 none_below : (low : Id) (x : Id) (es : List (Id × List Field)) → is_below x low ≡ false → AllAbove x (ids_of es) → filter (λ e. not (is_below e.0 low)) es ≡ es
 none_below low x [] h a = refl
 none_below low x (e ∷ es) h a = rw (not_below-above x low e.0 h a.0) (ap (λ rest. e ∷ rest) (none_below low x es h a.1))
@@ -180,7 +180,7 @@ keep_later n e all [] a = refl
 keep_later n e all (f ∷ fs) a =
     rw (below-not_back e.0 f.0 a.0) (ap (λ rest. cond (not (leb n (count_above f.0 (ids_of all)))) (f ∷ rest) rest) (keep_later n e all fs a.1))
 
--- MAXLEN drops from the front what is too many
+-- MAXLEN drops the surplus from the front
 pub trimmed-max_len : (n : ℕ) (es : List (Id × List Field)) → Ascends (ids_of es) → entries_after_trim (MaxLen n) es ≡ drop (length es - n) es
 trimmed-max_len n [] a = sym (drop-nil (0 - n))
 trimmed-max_len n (e ∷ es) a = rw (count_above-first e es a.0, keep_later n e es es a.0) (by (trimmed-max_len n es a.1) (leb n (length es)) refl) where
@@ -248,7 +248,7 @@ pub none-first : (es : List (Id × List Field)) → option_map (λ e. e.0) (slic
 none-first [] h = refl
 none-first (e ∷ es) h = let no = h in cc
 
--- where the first isn't below low a trim to it keeps all
+-- if the first isn't below low, a trim to it drops nothing
 pub trimmed-from : (low id : Id) (es : List (Id × List Field)) → Ascends (ids_of es) → option_map (λ e. e.0) (slice_get es 0) ≡ Some id → is_below id low ≡ false → entries_after_trim (MinId low) es ≡ es
 trimmed-from low id [] a h k = refl
 trimmed-from low id (e ∷ es) a h k =
@@ -256,7 +256,7 @@ trimmed-from low id (e ∷ es) a h k =
     let first : is_below e.0 low ≡ false = ap (λ x. is_below x low) same ∙ k in
     rw first (ap (λ rest. e ∷ rest) (none_below low e.0 es first a.0))
 
--- where it is below low the trim drops it
+-- if it is below low, the trim drops it
 pub trimmed-later : (low id : Id) (es : List (Id × List Field)) → option_map (λ e. e.0) (slice_get es 0) ≡ Some id → is_below id low ≡ true → entries_after_trim (MinId low) (drop 1 es) ≡ entries_after_trim (MinId low) es
 trimmed-later low id [] h k = refl
 trimmed-later low id (e ∷ es) h k =
@@ -274,7 +274,7 @@ one_fewer (e ∷ es) id h = omega arith
 
 -- ---- a range
 
--- the test of a map's range is that of ours
+-- the test of a map's range is the one here
 pub between-within : (range : Range) (x : Id) → range_contains id_cmp (Included range.low) (Included range.high) x ≡ is_within range x
 between-within range x = ap (λ b. b && not (is_below range.high x)) (le-not_below range.low x)
 
@@ -282,7 +282,7 @@ pub and_yes : (t : Bool) → (t && true) ≡ t
 and_yes true = refl
 and_yes false = refl
 
--- a range whose low end is above its high end holds nothing
+-- a range whose low end is above its high end is empty
 pub not_within : (range : Range) → is_below range.high range.low ≡ true → (x : Id) → is_within range x ≡ false
 not_within range h x = by (is_below x range.low) refl where
   by : (t : Bool) → is_below x range.low ≡ t → (not t && not (is_below range.high x)) ≡ false
@@ -298,7 +298,7 @@ limited-none (Some n) = drop-take n where
 
 -- ---- a loop over ids up to a limit
 
--- ids that are all, or as many as may be
+-- ids that are all, or as many as the limit
 pub taken : (xs ys all : List Id) (n : ℕ) → xs ++ ys ≡ all → length xs ≤ n → (ys ≡ []) ⊎ (n ≤ length xs) → xs ≡ take n all
 taken xs ys all n e few (inl none) = let whole : xs ≡ all = sym (append-nil xs) ∙ ap (λ rest. xs ++ rest) (sym none) ∙ e in
     whole ∙ sym (take_all n all (subst (λ l. length l ≤ n) whole few))

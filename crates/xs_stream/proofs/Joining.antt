@@ -1,4 +1,4 @@
--- A block that goes in front of the next one.
+-- A block that is put in front of the next one.
 use Rattle.std.proofs.Common.{◌≡◌, ◌<◌, Bool, true, false, cond, List, [], ◌∷◌, ◌++◌, length, Some, sym, ap, ◌∙◌, refl}
 use Rattle.std.proofs.Common.{arith, append_assoc, subst, length-append}
 use Rattle.std.specs.Map.{lookup, lookup_key, remove_entry, set_value, keys_of}
@@ -22,7 +22,7 @@ abbrev pub with_next : Id × Entries → Blocks → Blocks
 with_next b [] = b ∷ []
 with_next b (c ∷ cs) = (c.0, b.1 ++ c.1) ∷ cs
 
--- the blocks once the one under an id is in front of the next one
+-- the blocks after the one under an id is put in front of the next one
 abbrev pub joined : Id → Blocks → Blocks
 joined under [] = []
 joined under (b ∷ bs) = cond (is_same_id under b.0) (with_next b bs) (b ∷ joined under bs)
@@ -131,7 +131,7 @@ front-joined under next own es (c ∷ cs) newest filed after second =
     let same : es ≡ c.1 = cc in
     rw (key, other, is_same_id-refl c.0, is_same_id-refl under, same) refl
 
--- the next one has the entries of both, and the first one goes
+-- the next one has the entries of both, and the first one is removed
 pub joined-is : (under next : Id) (bs : Blocks) (newest own es : Entries) → AreFiled bs newest → lookup (is_same_id under) bs ≡ Some own → lookup_key (λ k. is_below under k) bs ≡ Some next
     → lookup (is_same_id next) (set_value (is_same_id under) bs []) ≡ Some es → remove_entry (is_same_id under) (set_value (is_same_id next) (set_value (is_same_id under) bs []) (own ++ es)) ≡ joined under bs
 joined-is under next [] newest own es filed first after second = let no = first in cc
@@ -156,7 +156,7 @@ joined-is under next (b ∷ bs) newest own es filed first after second = by (joi
       let other : is_same_id next b.0 ≡ false = is_same_id-symm next b.0 ∙ below-not_same b.0 next (key-above b.0 next (λ k. is_below under k) bs keys later) in
       rw (is, other, is) (ap (λ left. b ∷ left) (rest here later (rw (is, other) at second)))
 
--- what was taken out is put back
+-- what was removed is inserted again
 pub restored : (under : Id) (bs : Blocks) (es : Entries) → lookup (is_same_id under) bs ≡ Some es → set_value (is_same_id under) (set_value (is_same_id under) bs []) es ≡ bs
 restored under [] es h = refl
 restored under (b ∷ bs) es h = by (restored under bs es) (is_same_id under b.0) refl where
@@ -168,7 +168,7 @@ restored under (b ∷ bs) es h = by (restored under bs es) (is_same_id under b.0
       rw (is, is, same) refl
   by rest false is = rw (is, is) (ap (λ left. b ∷ left) (rest (rw is at h)))
 
--- and what is written as it was changes nothing
+-- writing what was there changes nothing
 pub rewritten : (under : Id) (bs : Blocks) (es : Entries) → lookup (is_same_id under) bs ≡ Some es → set_value (is_same_id under) bs es ≡ bs
 rewritten under [] es h = refl
 rewritten under (b ∷ bs) es h = by (rewritten under bs es) (is_same_id under b.0) refl where

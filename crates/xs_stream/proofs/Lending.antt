@@ -19,7 +19,7 @@ found-later e es [] above found = tt
 found-later e es (f ∷ fs) above found =
     (rw (is_same_id-symm f.0 e.0, below-not_same e.0 f.0 above.0) found.0, found-later e es fs above.1 found.1)
 
--- where the ids ascend, each entry is found by its id
+-- if the ids ascend, each entry is found by its id
 all-found : (es : Entries) → Ascends (ids_of es) → AreEntriesOf es es
 all-found [] a = tt
 all-found (e ∷ es) a = (rw (is_same_id-refl e.0) refl, found-later e es es a.0 (all-found es a.1))

@@ -35,7 +35,7 @@ then_second Less s e = cc
 then_second Equal s e = e
 then_second Greater s e = cc
 
--- ids that the order does not tell apart are one
+-- ids that the order doesn't distinguish are equal
 pub same_id : (a b : Id) → id_cmp a b ≡ Equal → a ≡ b
 same_id a b e =
     let ms = nat_same a.ms b.ms (then_first _ _ e) in

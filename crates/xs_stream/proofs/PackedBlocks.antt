@@ -1,4 +1,4 @@
--- Entries of a block: what is left of them, and what is taken out.
+-- Entries of a block: what is left of them, and what is removed.
 use Rattle.std.proofs.Common.{◌≡◌, ℕ, ◌+◌, ◌-◌, ◌<◌, ◌≤◌, ◌^◌, suc, zero, List, [], ◌∷◌, ◌++◌, ◌&&◌, ◌||◌, eqb, ltb}
 use Rattle.std.proofs.Common.{subst, Bool, true, false, cond, Some, length, filter, take, drop, sym, ap, ◌∙◌, refl}
 use Rattle.std.proofs.Common.{arith, append_assoc, add-one}
@@ -270,9 +270,9 @@ after_entries-one_less i bytes = rw (after_entries-more i bytes) (length-after_e
 pub length-block_entries : (base count start : ℕ) (bytes : List ℕ) → length (block_entries base count start bytes) ≡ count
 length-block_entries base count start bytes = length-entries_in base (first_text bytes) count (drop start bytes)
 
--- ---- what is taken out
+-- ---- what is removed
 
--- bytes that are the code of names and, behind a gap, of entries hold these
+-- bytes that are the code of names and, after a gap, of entries contain these
 module _ (base : ℕ) (names gap : List ℕ) (count start : ℕ) (bytes : List ℕ) (es : List (Id × List Field)) (fits : base < 2 ^ 64) (e : bytes ≡ (text_code names ++ gap) ++ entries_code base names es) (from : start ≡ length (text_code names ++ gap)) (n : count ≡ length es) where
   own-names : first_text bytes ≡ names
   own-names = ap first_text (e ∙ append_assoc (text_code names) gap (entries_code base names es)) ∙ first_text-code names (gap ++ entries_code base names es)
@@ -313,7 +313,7 @@ drop-front a b c e =
     rw (n, e) (drop-append_seam a b)
 
 module _ (base count start : ℕ) (bytes : List ℕ) (packed : IsPacked base count start bytes) (some : 0 < count) where
-  -- what lies between the names and the entries
+  -- the bytes between the names and the entries
   abbrev pub gap : List ℕ
   gap = (packed.named some).0
 
@@ -348,7 +348,7 @@ module _ (base count start : ℕ) (bytes : List ℕ) (packed : IsPacked base cou
       rw (add-one, before, behind) (append_assoc (text_code names ++ gap) (entries_code base names (take i es)) (entries_code base names (drop (suc i) es))
       ∙ ap (λ b. (text_code names ++ gap) ++ b) (sym (flat_map-append (λ (e : Id × List Field). entry_code base (has_names names e.1) e) (take i es) (drop (suc i) es))))
 
-  -- where entries move up, the bytes that they leave belong to what lies between
+  -- if entries move up, the bytes that they leave belong to those between
   abbrev pub raised : ℕ → List ℕ → List ℕ
   raised start2 new = gap ++ take (start2 - start) (drop start new)
 
@@ -371,7 +371,7 @@ module _ (base count start : ℕ) (bytes : List ℕ) (packed : IsPacked base cou
         rest ∙ ap (drop start) (removed-code i h) ∙ ap (λ n. drop n ((text_code (first_text bytes) ++ gap) ++ left)) begins ∙ drop-append_seam (text_code (first_text bytes) ++ gap) left in
         sym (take-append-drop start2 new) ∙ ap (λ b. b ++ drop start2 new) next_count-front ∙ ap (λ b. (text_code (first_text bytes) ++ raised start2 new) ++ b) behind
 
-  -- where some entries are passed, their bytes belong to what lies between
+  -- if some entries are skipped, their bytes belong to those between
   abbrev pub wider : ℕ → List ℕ
   wider k = gap ++ entries_code base (first_text bytes) (take k (block_entries base count start bytes))
 
@@ -410,7 +410,7 @@ module _ (base count start : ℕ) (bytes : List ℕ) (packed : IsPacked base cou
   pub tidied-begins : length bytes - length (after_text bytes) ≡ length (text_code (first_text bytes) ++ [])
   tidied-begins = omega (arith, ap length (append-nil (text_code (first_text bytes))), ap length whole, length-append (text_code (first_text bytes)) (after_text bytes))
 
-  -- missing names take the place of names that no entry has
+  -- missing names replace names that no entry has
   pub fronted-code : (new : List ℕ) → shares_names count (drop start bytes) ≡ false → new ≡ text_code [] ++ drop start bytes
       → new ≡ (text_code [] ++ []) ++ entries_code base [] (block_entries base count start bytes)
   fronted-code new none e =
@@ -427,7 +427,7 @@ module _ (base count start : ℕ) (bytes : List ℕ) (packed : IsPacked base cou
       let es = block_entries base count start bytes in
       rw (flat_map-append, append-nil) (ap (λ b. b ++ entry_code base (has_names names entry.1) entry) opened ∙ append_assoc (text_code names ++ gap) (entries_code base names es) (entry_code base (has_names names entry.1) entry))
 
-  -- the entries of another block with the same names, behind these
+  -- the entries of another block with the same names, after these
   pub taken-code : (from count2 start2 : ℕ) (bytes2 : List ℕ) → IsPacked from count2 start2 bytes2 → first_text bytes2 ≡ first_text bytes
       → (new rest : List ℕ) → rest ≡ drop start2 bytes2 → new ≡ bytes ++ rebased_codes base from count2 rest
       → new ≡ (text_code (first_text bytes) ++ gap) ++ entries_code base (first_text bytes) (block_entries base count start bytes ++ block_entries from count2 start2 bytes2)
@@ -461,7 +461,7 @@ pub fronted-begins : 1 ≡ length (text_code [] ++ [])
 unfolding text_code number_code
 fronted-begins = refl
 
--- the first entry of a block, behind its names
+-- the first entry of a block, after its names
 pub first-code : (entry : Id × List Field) (old bytes : List ℕ) → old ≡ [] → bytes ≡ old ++ (text_code (names_code entry.1) ++ entry_code entry.0.ms true entry)
     → bytes ≡ (text_code (names_code entry.1) ++ []) ++ entries_code entry.0.ms (names_code entry.1) (entry ∷ [])
 first-code entry old bytes none e =
@@ -478,7 +478,7 @@ remove-absent id (e ∷ es) h = by (remove-absent id es) (is_same_id id e.0) h w
   by rest true h = absurd (false≢true (sym h))
   by rest false h = ap (λ left. e ∷ left) (rest h)
 
--- and where the only entry is found, none is left
+-- if the only entry is found, none is left
 pub only-removed : (es : List (Id × List Field)) (i : ℕ) → length es ≡ 1 → i < length es → remove es i ≡ []
 only-removed [] i e h = absurd (omega arith)
 only-removed (x ∷ []) zero e h = refl

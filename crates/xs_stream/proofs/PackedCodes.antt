@@ -1,4 +1,4 @@
--- What is read of what was written.
+-- Reading what was written.
 use Rattle.std.proofs.Common.{◌≡◌, ℕ, ◌+◌, ◌-◌, ◌%◌, ◌≤◌, ◌&&◌, get_or, suc, zero, ◌^◌, ◌<◌, List, [], ◌∷◌, ◌++◌, Bool}
 use Rattle.std.proofs.Common.{true, false, not, cond, ltb, eqb, length, take, drop, sym, ap, ◌∙◌, refl, arith}
 use Rattle.std.proofs.Common.{append_assoc, length-append}
@@ -104,14 +104,14 @@ body_fields-unshared names fields =
     rw (first_number-code (length fields + 1) (flat_map (field_code false) fields), after_number-code (length fields + 1) (flat_map (field_code false) fields), some, count)
     (ap (fields_in false (length fields) names) (sym (append-nil (flat_map (field_code false) fields))) ∙ fields_in-unshared fields names [])
 
--- what is read of the body of an entry that was written over these names
+-- the fields that are read from the body of an entry that was written over these names
 pub body_fields-code : (names : List ℕ) (fields : List Field) → body_fields names (body_code (has_names names fields) fields) ≡ fields
 body_fields-code names fields = by (has_names names fields) refl where
   by : (t : Bool) → has_names names fields ≡ t → body_fields names (body_code t fields) ≡ fields
   by true h = body_fields-shared names fields h
   by false h = body_fields-unshared names fields
 
--- fields have the names that are written of them
+-- fields have the names that are written for them
 all_named-own : (fields : List Field) (rest : List ℕ) → all_named (flat_map (λ f. text_code f.name) fields ++ rest) fields ≡ true
 all_named-own [] rest = refl
 all_named-own (f ∷ fs) rest =
@@ -175,7 +175,7 @@ after_number-ms_code base ms rest = by (ltb ms (2 ^ 64)) where
   by true = after_number-code ((ms + (2 ^ 64 - base)) % 2 ^ 64) rest
   by false = refl
 
--- an entry that stands first
+-- an entry at the front
 module _ (base : ℕ) (shared : Bool) (e : Id × List Field) (rest : List ℕ) where
   parted : entry_code base shared e ++ rest ≡ ms_code base e.0.ms ++ (number_code e.0.seq ++ (text_code (body_code shared e.1) ++ rest))
   unfolding entry_code
@@ -204,7 +204,7 @@ entries_in-code base names (e ∷ es) rest fits =
     rw (append_assoc, entry_id-code base shared e others fits, entry_body-code base shared e others, body_fields-code names e.1, after_entry-code base shared e others)
     (ap (λ left. e ∷ left) (entries_in-code base names es rest fits))
 
--- entries are read of their own code
+-- entries are read from their own code
 pub entries_in-whole : (base : ℕ) (names : List ℕ) (es : List (Id × List Field)) → base < 2 ^ 64 → packed_entries base names (length es) (entries_code base names es) ≡ es
 entries_in-whole base names es fits = ap (packed_entries base names (length es)) (sym (append-nil (entries_code base names es))) ∙ entries_in-code base names es [] fits
 
@@ -217,7 +217,7 @@ pub length-entries_in : (base : ℕ) (names : List ℕ) (count : ℕ) (bytes : L
 length-entries_in base names zero bytes = refl
 length-entries_in base names (suc count) bytes = ap suc (length-entries_in base names count (after_entry bytes))
 
--- bytes hold no mark of milliseconds
+-- bytes contain no mark of milliseconds
 pub first_ms-bytes : (base : ℕ) (bytes : List ℕ) → ((k : ℕ) → get_or bytes k 0 < 256) → first_ms base bytes ≡ (base + first_number bytes) % 2 ^ 64
 unfolding first_ms
 first_ms-bytes base [] h = refl
@@ -248,13 +248,13 @@ pub length-flat_map_more : (code : Field → List ℕ) (front : List ℕ) (field
 length-flat_map_more code front fields i d size more h e f =
     rw (flat_map-more code fields i d h, length-append, length-append) (omega (arith, length-append front (flat_map code (take i fields)), e, f))
 
--- what was there before several writes is there still
+-- what was there before several writes is still there
 pub kept-before : (before more now last : List ℕ) (n m : ℕ) → now ≡ before ++ more → take m last ≡ now → n ≡ length before → m ≡ length now → take n last ≡ before
 kept-before before more now last n m e f g h =
     let shorter : n ≤ m = omega (arith, ap length e, length-append before more) in
     sym (take-take n m last shorter) ∙ ap (take n) (f ∙ e) ∙ rw g (take-append_seam before more)
 
--- what stands first stays first
+-- what is at the front stays there
 pub kept-first : (before now last : List ℕ) (n m : ℕ) → take n now ≡ before → n ≡ length before → take m last ≡ now → m ≡ length now → take n last ≡ before
 kept-first before now last n m e f g h =
     let shorter : n ≤ m = omega (arith, ap length e, length-take n now, f, h) in
@@ -299,7 +299,7 @@ pub true-not : (t u : Bool) → t ≡ not u → t ≡ true → u ≡ false
 true-not t true e f = absurd (false≢true (sym e ∙ f))
 true-not t false e f = refl
 
--- ---- what several writes make
+-- ---- the result of several writes
 
 pub written-names : (fields : List Field) (size : ℕ) → size ≡ length (names_code fields) → number_code size ++ (number_code (length fields) ++ flat_map (λ f. text_code f.name) fields) ≡ text_code (names_code fields)
 unfolding text_code names_code

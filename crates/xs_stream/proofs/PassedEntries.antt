@@ -1,4 +1,4 @@
--- Entries that a walk passes over, since their ids are below the one from which it looks on.
+-- Entries that a walk skips, because their ids are below the one from which it looks on.
 use Rattle.std.proofs.Common.{◌≡◌, ℕ, ◌+◌, ◌-◌, ◌≤◌, suc, zero, true, false, List, ◌∷◌, ◌++◌}
 use Rattle.std.proofs.Common.{filter, take, drop, ap, ◌∙◌, refl, arith, add-one}
 use Rattle.std.specs.Map.{remove_entry}
@@ -21,7 +21,7 @@ module _ (base : ℕ) (low : Id) where
   pub below-more : (n : ℕ) (bytes : List ℕ) → AllBelow low (packed_ids base n bytes) → is_below (entry_id base (after_entries n bytes)) low ≡ true → AllBelow low (packed_ids base (n + 1) bytes)
   below-more n bytes all h = rw add-one (below-suc n bytes all h)
 
--- what is looked for is behind them
+-- the id that is searched for is after them
 module _ (base : ℕ) (names : List ℕ) (id : Id) where
   other : (x : Id) → is_below x id ≡ true → is_same_id id x ≡ false
   other x h = is_same_id-symm id x ∙ below-not_same x id h
@@ -56,7 +56,7 @@ module _ (base : ℕ) (names : List ℕ) (range : Range) where
       let e : suc count - suc n ≡ count - n = omega arith in
       rw (outside (entry_id base bytes) all.0, e) (within-behind count n (after_entry bytes) (omega arith) all.1)
 
--- so a walk may begin behind them
+-- so a walk may begin after them
 module _ (packed : PackedEntries) (n : ℕ) (rest : List ℕ) (few : n ≤ packed.count) (left : rest ≡ after_entries n (drop packed.start packed.bytes.now)) where
   pub lookup-start : (id : Id) → AllBelow id (packed_ids packed.base n (drop packed.start packed.bytes.now)) → fields_at (unpacked_entries packed) id ≡ fields_at (packed_entries packed.base (first_text packed.bytes.now) (packed.count - n) rest) id
   lookup-start id all = rw left (lookup-behind packed.base (first_text packed.bytes.now) id packed.count n (drop packed.start packed.bytes.now) few all)

@@ -59,7 +59,7 @@ from-past cursor low x h fits =
           ∙ sym (below-is cursor.ms cursor.seq x.ms x.seq)
       by false false e f = let no = f in cc
 
--- where a cursor has no successor nothing is above it
+-- if a cursor has no successor nothing is above it
 none-above : (cursor x : Id) → next_id cursor ≡ None → IsId x → is_below cursor x ≡ false
 none-above cursor x h fits = below-is cursor.ms cursor.seq x.ms x.seq ∙ by (ltb cursor.seq greatest_number) (ltb cursor.ms greatest_number) refl refl h where
   by : (s m : Bool) → ltb cursor.seq greatest_number ≡ s → ltb cursor.ms greatest_number ≡ m

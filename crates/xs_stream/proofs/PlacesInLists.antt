@@ -1,4 +1,4 @@
--- Where an entry stands in a list of entries.
+-- The place of an entry in a list of entries.
 use Rattle.std.proofs.Common.{◌≡◌, ℕ, ◌+◌, ◌<◌, suc, zero, Bool, true, false, List, [], ◌∷◌, length, get_or, Some, None}
 use Rattle.std.proofs.Common.{sym, ap, ◌∙◌, refl, arith}
 use Rattle.std.specs.Map.{lookup, remove_entry}
@@ -14,7 +14,7 @@ module _ (test : Id → Bool) where
   found_first (e ∷ es) zero d lt h before = rw h refl
   found_first (e ∷ es) (suc i) d lt h before = rw (before 0 (omega arith)) (found_first es i d (omega arith) h (λ k l. before (suc k) (omega arith)))
 
-  -- what stands at the place is found
+  -- the entry at the place is the one that is found
   pub lookup-place : (es : List (Id × List Field)) (i : ℕ) (d : Id × List Field) → position (λ e. test e.0) es ≡ Some i → lookup test es ≡ Some (get_or es i d).1
   lookup-place es i d h =
       let at = position-Some (λ (e : Id × List Field). test e.0) es i d h in
@@ -25,7 +25,7 @@ module _ (test : Id → Bool) where
   removed_first (e ∷ es) zero d lt h before = rw h refl
   removed_first (e ∷ es) (suc i) d lt h before = rw (before 0 (omega arith)) (ap (λ rest. e ∷ rest) (removed_first es i d (omega arith) h (λ k l. before (suc k) (omega arith))))
 
-  -- what is removed at the place is the entry
+  -- the entry that is removed at the place is that one
   pub remove-place : (es : List (Id × List Field)) (i : ℕ) (d : Id × List Field) → position (λ e. test e.0) es ≡ Some i → remove es i ≡ remove_entry test es
   remove-place es i d h =
       let at = position-Some (λ (e : Id × List Field). test e.0) es i d h in
@@ -38,7 +38,7 @@ module _ (test : Id → Bool) where
     by rest true is = let no = rw is at h in cc
     by rest false is = rw is (rest (rw is at h))
 
-  -- where there is no place nothing is found
+  -- if there is no place nothing is found
   pub lookup-no_place : (es : List (Id × List Field)) → position (λ e. test e.0) es ≡ None → lookup test es ≡ None
   lookup-no_place es h = none_from es 0 (sym (position_from-zero (λ (e : Id × List Field). test e.0) es) ∙ h)
 

@@ -1,4 +1,4 @@
--- The memory of filed blocks: how the sum follows when one is filed, goes or changes.
+-- The memory of filed blocks: how the sum changes if one is filed, removed or changed.
 use Rattle.std.proofs.Common.{◌≡◌, ℕ, ◌+◌, ◌*◌, ◌^◌, ◌<◌, ◌≤◌, Bool, true, false, cond, List, [], ◌∷◌, ◌++◌, length, Some, suc}
 use Rattle.std.proofs.Common.{◌-◌, sym, ap, ◌∙◌, refl, arith, length-append, Ordering, subst}
 use Rattle.std.specs.Map.{lookup, remove_entry, set_value}
@@ -17,7 +17,7 @@ Filed = List (Id × BlockState)
 abbrev Entries : Type 0
 Entries = List (Id × List Field)
 
--- so many blocks have memory that can be added up
+-- the memory of this number of blocks can be added up
 pub room-bound : (bs : Filed) → AllFit bs → room_of_blocks bs ≤ length bs * (2 ^ 63 + 128)
 room-bound [] fit = omega arith
 room-bound (b ∷ bs) fit = omega (arith, room-bound bs fit.1, fit.0)
@@ -29,7 +29,7 @@ few-blocks (b ∷ bs) newest filed =
     omega (arith, few-blocks bs newest filed.1, filed.0.has_entries, length-append b.1 (entries_of_blocks bs), length-append (b.1 ++ entries_of_blocks bs) newest, length-append (entries_of_blocks bs) newest)
 
 module _ (test : Id → Bool) where
-  -- a block that goes
+  -- a block that is removed
   pub room-removed : (bs : Filed) (block : BlockState) → lookup test bs ≡ Some block → room_of_blocks (remove_entry test bs) + (block.room + place_room) ≡ room_of_blocks bs
   room-removed [] block h = let no = h in absurd (cc)
   room-removed (b ∷ bs) block h = by (room-removed bs block) (test b.0) refl where
@@ -41,7 +41,7 @@ module _ (test : Id → Bool) where
         rw is (omega (arith, ap (λ (c : BlockState). c.room) same))
     by rest false is = rw is (omega (arith, rest (rw is at h)))
 
-  -- a block that becomes another
+  -- a block that is replaced
   pub room-set : (bs : Filed) (block new : BlockState) → lookup test bs ≡ Some block → room_of_blocks (set_value test bs new) + block.room ≡ room_of_blocks bs + new.room
   room-set [] block new h = let no = h in absurd (cc)
   room-set (b ∷ bs) block new h = by (room-set bs block new) (test b.0) refl where
@@ -113,11 +113,11 @@ module _ (key : Id) (new : BlockState) where
 
 -- ---- what is measured stays measured
 
--- one sum more can be told
+-- one more sum is within the numbers
 pub adds-up : (bs : Filed) (room : ℕ) → AreMeasured bs room → room + 2 ^ 64 + 2 ^ 64 < 2 ^ 128
 adds-up bs room measured = omega (arith, room-bound bs measured.fit, measured.sum, measured.few)
 
--- the sum is far below what can be told
+-- the sum is far below the greatest number
 pub sum-small : (bs : Filed) (room : ℕ) → AreMeasured bs room → room + 2 ^ 64 < 2 ^ 127
 sum-small bs room measured = omega (arith, room-bound bs measured.fit, measured.sum, measured.few)
 
@@ -134,7 +134,7 @@ module _ (bs new : Filed) (room : ℕ) (measured : AreMeasured bs room) where
       few = omega (arith, as_many-set (is_same_id under) bs left, measured.few);
     })
 
-    -- a block that stays as it is
+    -- a block that is unchanged
     pub measured-kept : new ≡ set_value (is_same_id under) bs block → AreMeasured new room
     measured-kept is = measured-set block room is (fit-found (is_same_id under) bs block measured.fit (sym found)) refl
 
@@ -145,7 +145,7 @@ module _ (bs new : Filed) (room : ℕ) (measured : AreMeasured bs room) where
       few = omega (arith, fewer-removed (is_same_id under) bs, measured.few);
     })
 
-  -- the first block goes
+  -- the first block is removed
   module _ (first : Id × BlockState) (rest : Filed) (split : bs ≡ first ∷ rest) where
     pub first-room-within : first.1.room + place_room ≤ room
     first-room-within = omega (arith, ap room_of_blocks split, measured.sum)
@@ -157,7 +157,7 @@ module _ (bs new : Filed) (room : ℕ) (measured : AreMeasured bs room) where
       few = omega (arith, ap length split, measured.few);
     })
 
-  -- a block comes
+  -- a block is inserted
   pub measured-inserted : (key : Id) (block : BlockState) → new ≡ insert_entry id_cmp bs key block → length new ≡ length bs + 1 → length new < 2 ^ 63 → block.room < 2 ^ 63 → AreMeasured new (room + (block.room + place_room))
   measured-inserted key block is more few small =
       let grown : length (insert_entry id_cmp bs key block) ≡ length bs + 1 = sym (ap length is) ∙ more in

@@ -34,7 +34,7 @@ within range es = filter (λ e. is_within range e.0) es
 pub within-append : (range : Range) (es fs : Entries) → within range (es ++ fs) ≡ within range es ++ within range fs
 within-append range es fs = filter-append (λ (e : Id × List Field). is_within range e.0) es fs
 
--- nothing is within a range whose ends stand the other way
+-- nothing is within a range whose low end is above its high end
 pub within-none : (range : Range) → is_below range.high range.low ≡ true → (es : Entries) → within range es ≡ []
 within-none range h [] = refl
 within-none range h (e ∷ es) = rw (not_within range h e.0) (within-none range h es)
@@ -55,7 +55,7 @@ module _ (range : Range) where
       and_no true = refl
       and_no false = refl
 
--- what is above an id is so in some of the blocks too
+-- an id below all entries is below those of some of the blocks too
 pub above-some : (x : Id) (test : Id × Entries → Bool) (bs : Blocks) (newest : Entries) → AllAbove x (ids_of (entries_of_blocks bs ++ newest)) → AllAbove x (ids_of (entries_of_blocks (filter test bs) ++ newest))
 above-some x test [] newest a = a
 above-some x test (b ∷ bs) newest a = by (test b) (above-some x test bs newest (behind b.1 (entries_of_blocks bs ++ newest) all)) where
@@ -147,7 +147,7 @@ module _ (range : Range) where
             let none_met = none-above range b.0 (entries_of_blocks cs ++ newest) (above-some b.0 (λ c. range_contains id_cmp (Included range.low) (Included end) c.0) bs newest filed.0.later_above) is in
             rw (from_low, at_end) (met b bs cs newest (none_met ∙ sym none_later))
 
-  -- the walk of a range meets all that is within it, but for the newest
+  -- the walk of a range meets all that is within it, except the newest
   pub walk-within : (bs : Blocks) (newest : Entries) → AreFiled bs newest → is_below range.high range.low ≡ false
       → within range (entries_of_blocks (entries_between id_cmp (Included range.low) (end_at range.high bs) bs) ++ newest) ≡ within range (entries_of_blocks bs ++ newest)
   walk-within bs newest filed forward = by (lookup_key (λ under. not (is_below under range.high)) bs) refl where
@@ -170,15 +170,15 @@ module _ (range : Range) where
         let up = entry-passes (λ under. not (is_below under range.high)) bs (end, entry.0) entry.1 in
         gt_turned (id_cmp range.low end) ∙ ap is_lt (sym (ids_total.antisymm end range.low)) ∙ not_above-trans end range.high range.low (not_true _ up) forward
 
--- ---- as many as may be
+-- ---- as many as the limit
 
--- more behind what is cut off already
+-- more after what is cut off already
 pub take-take_append : {X : Type 0} → (n : ℕ) (xs ys : List X) → take n (take n xs ++ ys) ≡ take n (xs ++ ys)
 take-take_append zero xs ys = refl
 take-take_append (suc n) [] ys = refl
 take-take_append (suc n) (x ∷ xs) ys = ap (λ rest. x ∷ rest) (take-take_append n xs ys)
 
--- what follows as many as may be doesn't matter
+-- what follows the limit doesn't matter
 pub take-full : {X : Type 0} → (n : ℕ) (xs ys zs : List X) → n ≤ length xs → take n (xs ++ ys) ≡ take n (xs ++ zs)
 take-full n xs ys zs full = take-append-le n xs ys full ∙ sym (take-append-le n xs zs full)
 

@@ -1,9 +1,9 @@
--- What a block is: its entries, and the memory that it has for them.
+-- A block: its entries, and the memory that it has for them.
 use Rattle.std.specs.Prelude.{ℕ, List}
 use Rattle.xs_stream.specs.declared.id.Id.{Id}
 use Rattle.xs_stream.specs.declared.field.Field.{Field}
 
--- the entries, and for how many bytes there is room, whether entries take them or not
+-- the entries, and the bytes of room, whether entries take them or not
 pub record BlockState : Type 0 where
   pub entries : List (Id × List Field)
   pub room : ℕ

@@ -1,4 +1,4 @@
--- How a stream lays down its entries: in blocks, each filed under an id, and behind them the newest ones.
+-- How a stream stores its entries: in blocks, each filed under an id, and after them the newest ones.
 use Rattle.std.specs.Prelude.{◌≡◌, ℕ, ◌+◌, ◌<◌, ◌≤◌, ◌^◌, not, List, [], ◌∷◌, ◌++◌, length, Option, Some, None}
 use Rattle.std.specs.List.{flat_map}
 use Rattle.std.specs.Map.{keys_of, lookup, lookup_key, set_value}
@@ -40,7 +40,7 @@ abbrev pub AreFiled : List (Id × List (Id × List Field)) → List (Id × List 
 AreFiled [] newest = Unit {0}
 AreFiled (b ∷ bs) newest = IsFiled b (entries_of_blocks bs ++ newest) × AreFiled bs newest
 
--- how many bytes a filed block takes beside its own: its place in the tree
+-- the bytes that a filed block takes in addition to its own: its place in the tree
 abbrev pub place_room : ℕ
 place_room = 128
 
@@ -58,24 +58,24 @@ abbrev pub AllFit : List (Id × BlockState) → Type 0
 AllFit [] = Unit {0}
 AllFit (b ∷ bs) = (b.1.room < 2 ^ 63) × AllFit bs
 
--- so many bytes are the memory of filed blocks, which are few enough to add it up
+-- this many bytes are the memory of filed blocks, which are few enough to add it up
 pub record AreMeasured (blocks : List (Id × BlockState)) (room : ℕ) : Type 0 where
   pub sum : room ≡ room_of_blocks blocks
   pub fit : AllFit blocks
   pub few : length blocks < 2 ^ 63
 
--- the sum that is kept is the memory of the filed blocks
+-- the sum that is stored is the memory of the filed blocks
 abbrev pub IsMeasured : Entries → Type 0
 IsMeasured entries = AreMeasured entries.older.entries entries.room
 
--- each block is filed, the count is that of the entries, and a signed number of 64 bits can tell it
+-- each block is filed, the count is that of the entries, and it is within a signed number of 64 bits
 pub record IsLaidDown (entries : Entries) : Type 0 where
   pub filed : AreFiled (contents entries.older.entries) entries.newest.entries
   pub measured : IsMeasured entries
   pub counted : entries.len ≡ length (all_of entries)
   pub small : entries.len < 2 ^ 63
 
--- a block has gone in front of the one under an id
+-- a block was put in front of the one under an id
 abbrev pub HasJoined : Id → List (Id × List Field) → List (Id × List (Id × List Field))
     → List (Id × List (Id × List Field)) → Type 0
 HasJoined next front old new =
@@ -86,8 +86,8 @@ HasJoined next front old new =
 abbrev pub block_ids : Entries → List Id
 block_ids entries = keys_of (contents entries.older.entries)
 
--- What holds inside of a stream: it is valid, its entries are laid down, and none of those ids is above the top. As each
--- addition has a greater id, there were no more of them than there are ids up to the top.
+-- What is true within a stream: it is valid, its entries are stored in blocks, and none of their ids is above the top.
+-- Since each addition has a greater id, there were at most as many additions as there are ids up to the top.
 pub record IsSound (top : Id) (added : ℕ) (entries : Entries) : Type 0 where
   pub valid : AreValid top (all_of entries)
   pub few : added ≤ rank_of top

@@ -1,4 +1,4 @@
--- What holds of a stream at each time: it is consistent, and its ids are ids.
+-- What is always true of a stream: it is consistent, and its ids are valid.
 use Rattle.std.specs.Prelude.{ℕ, ◌+◌, ◌*◌, ◌<◌, ◌^◌, Bool, not, ◌&&◌, nat_le, List, [], ◌∷◌}
 use Rattle.xs_stream.specs.declared.id.Id.{Id}
 use Rattle.xs_stream.specs.declared.field.Field.{Field}
@@ -28,11 +28,11 @@ pub record AreValid (top : Id) (entries : List (Id × List Field)) : Type 0 wher
   pub are_ids : AllIds (ids_of entries)
   pub above_zero : AllAbove zero_id (ids_of entries)
 
--- how many ids there are below an id
+-- the number of ids below an id
 abbrev pub rank_of : Id → ℕ
 rank_of id = id.ms * 2 ^ 64 + id.seq
 
--- a stream may have this top and so many additions behind entries up to an earlier top: the top isn't below that one,
+-- a stream may have this top and this many additions after entries up to an earlier top: the top isn't below that one,
 -- and each addition had an id of its own, above 0-0
 abbrev pub is_history_after : Id → Id → ℕ → Bool
 is_history_after earlier top added = not (is_below top earlier) && nat_le added (rank_of top)

@@ -1,5 +1,5 @@
--- What ids and ranges mean, by examples of the Redis documentation (Redis Streams, "Entry IDs"; XADD, XRANGE), as a
--- real Redis 7.0 answers them. Where this server has a rule of its own, "own" says so.
+-- The meaning of ids and ranges, by examples of the Redis documentation (Redis Streams, "Entry IDs"; XADD, XRANGE) and
+-- the replies of a real Redis 7.0. A rule that is this server's is marked "own".
 use Rattle.std.specs.Prelude.{◌≡◌, ℕ, ◌+◌, ◌^◌, true, false, [], ◌∷◌, codes, Some, None, Ok, Err}
 use Rattle.xs_stream.specs.declared.id.Id.{Id}
 use Rattle.xs_stream.specs.declared.add.AddId.TheVariants.{Auto, AutoSeq, Exact}

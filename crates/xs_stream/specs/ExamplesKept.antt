@@ -1,4 +1,4 @@
--- What a stream keeps and shows, by examples, as a real Redis 7.0 answers (XRANGE, XREVRANGE, XDEL, XTRIM).
+-- What a stream stores and shows, by examples and the replies of a real Redis 7.0 (XRANGE, XREVRANGE, XDEL, XTRIM).
 use Rattle.std.specs.Prelude.{◌≡◌, true, false, List, [], ◌∷◌, codes, Some, None}
 use Rattle.xs_stream.specs.declared.id.Id.{Id}
 use Rattle.xs_stream.specs.declared.field.Field.{Field}

@@ -18,15 +18,15 @@ previous_id id =
     if nat_lt 0 id.seq then Some (record { ms = id.ms; seq = id.seq - 1 })
     else (if nat_lt 0 id.ms then Some (record { ms = id.ms - 1; seq = greatest_number }) else None)
 
--- one to twenty digits, worth less than 2^64
+-- one to twenty digits, with a value below 2^64
 abbrev pub id_number : List ℕ → Option ℕ
 id_number text = if nat_le (length text) 20 then number_of text else None
 
--- the id of two numbers, where both are there
+-- the id of two numbers, if there are both
 abbrev pub id_of_parts : Option ℕ → Option ℕ → Option Id
 id_of_parts ms seq = option_and_then (λ m. option_map (λ s. record { ms = m; seq = s }) seq) ms
 
--- what stands at both sides of a dash, or one number with no dash
+-- the numbers on both sides of a dash, or one number without a dash
 abbrev pub parse_around : Option ℕ → List ℕ → ℕ → Option Id
 parse_around None text missing = id_of_parts (id_number text) (Some missing)
 parse_around (Some dash) text missing = id_of_parts (id_number (take dash text)) (id_number (drop (dash + 1) text))

@@ -1,5 +1,5 @@
--- Entries after one another in bytes. An id's milliseconds stand as how far they are above a base, and the fields
--- stand after their length, so that they can be passed over. Names that a block has once aren't repeated.
+-- Entries one after another in bytes. The milliseconds of an id are stored as their distance above a base, and the
+-- fields after their length, so they can be skipped. Names that a block has once aren't repeated.
 use Rattle.std.specs.Prelude.{◌≡◌, ℕ, zero, suc, ◌+◌, ◌-◌, ◌%◌, ◌^◌, ◌<◌, ◌==◌, ◌&&◌, ◌||◌, Bool, true, false, not}
 use Rattle.std.specs.Prelude.{List, [], ◌∷◌, ◌++◌, ◌≤◌, length, take, drop, nat_lt, if◌then◌else◌}
 use Rattle.std.specs.List.{flat_map}
@@ -11,7 +11,7 @@ use Rattle.xs_stream.specs.PackedText.{text_code, first_text, after_text}
 
 -- ---- names
 
--- how many fields there are, and the name of each
+-- the number of fields, and the name of each
 unfoldable pub names_code : List Field → List ℕ
 names_code fields = number_code (length fields) ++ flat_map (λ f. text_code f.name) fields
 
@@ -26,12 +26,12 @@ has_names names fields =
 
 -- ---- fields
 
--- a field, or its value alone
+-- a field, or only its value
 abbrev pub field_code : Bool → Field → List ℕ
 field_code true field = text_code field.value
 field_code false field = text_code field.name ++ text_code field.value
 
--- 0 where the names stand elsewhere, and otherwise one more than there are fields
+-- 0 if the names are stored elsewhere, else one more than the number of fields
 abbrev pub mark_of : Bool → List Field → ℕ
 mark_of true fields = 0
 mark_of false fields = length fields + 1
@@ -89,7 +89,7 @@ packed_entries base names (suc count) bytes =
 abbrev pub entries_code : ℕ → List ℕ → List (Id × List Field) → List ℕ
 entries_code base names entries = flat_map (λ e. entry_code base (has_names names e.1) e) entries
 
--- an entry as it is, over another base
+-- an entry, unchanged, over another base
 abbrev pub rebased_code : ℕ → ℕ → List ℕ → List ℕ
 rebased_code base from bytes =
     ms_code base (entry_id from bytes).ms ++ (number_code (entry_id from bytes).seq ++ text_code (entry_body bytes))
@@ -100,7 +100,7 @@ rebased_codes base from zero bytes = []
 rebased_codes base from (suc count) bytes =
     rebased_code base from bytes ++ rebased_codes base from count (after_entry bytes)
 
--- one of this many entries has the names that stand elsewhere
+-- one of this many entries has the names that are stored elsewhere
 abbrev pub shares_names : ℕ → List ℕ → Bool
 shares_names zero bytes = false
 shares_names (suc count) bytes = (first_number (entry_body bytes) == 0) || shares_names count (after_entry bytes)
@@ -112,7 +112,7 @@ after_entries (suc count) bytes = after_entries count (after_entry bytes)
 
 -- ---- a block
 
--- this many entries from a place on, behind the names that they share
+-- this many entries from a place on, after the names that they share
 abbrev pub block_entries : ℕ → ℕ → ℕ → List ℕ → List (Id × List Field)
 block_entries base count start bytes = packed_entries base (first_text bytes) count (drop start bytes)
 
@@ -120,7 +120,7 @@ block_entries base count start bytes = packed_entries base (first_text bytes) co
 abbrev pub BeginsWithText : List ℕ → List ℕ → Type 0
 BeginsWithText text bytes = (behind : List ℕ) × (bytes ≡ text_code text ++ behind)
 
--- the names stand first, and from a place on the entries that are read there, and nothing else
+-- the names come first, and from a place on the entries that are read there, and nothing else
 pub record IsPacked (base count start : ℕ) (bytes : List ℕ) : Type 0 where
   pub base_fits : base < 2 ^ 64
   pub inside : start ≤ length bytes

@@ -1,4 +1,4 @@
--- The entries over which a walk goes, and those that it passes over at once, since they are below its id.
+-- The entries of a walk, and those that it skips at once, because they are below its id.
 use Rattle.std.specs.Prelude.{◌≡◌, ℕ, zero, suc, true, List, [], ◌∷◌}
 use Rattle.xs_stream.specs.declared.id.Id.{Id}
 use Rattle.xs_stream.specs.declared.field.Field.{Field}

@@ -1,4 +1,4 @@
--- What a stream keeps, and what ranges, deletions and trims show and leave of it. (Redis, XRANGE, XDEL and XTRIM.)
+-- The content of a stream, and the result of ranges, deletions and trims. (Redis, XRANGE, XDEL and XTRIM.)
 use Rattle.std.specs.Prelude.{◌≡◌, ℕ, ◌+◌, ◌++◌, Bool, true, false, ◌&&◌, not, List, [], ◌∷◌, map, filter, length, reverse, take}
 use Rattle.std.specs.Prelude.{nat_le, Option, Some, None, if◌then◌else◌}
 use Rattle.std.specs.Map.{lookup}
@@ -9,15 +9,15 @@ use Rattle.xs_stream.specs.declared.trim.Trim.{Trim}
 use Rattle.xs_stream.specs.declared.trim.Trim.TheVariants.{MaxLen, MinId}
 use Rattle.xs_stream.specs.Id.{is_below, is_same_id, has_id, zero_id}
 
--- the greatest id ever added, the entries in the order of their ids, how many were ever added, and the greatest id ever
--- deleted, or 0-0
+-- the greatest id ever added, the entries in the order of their ids, the number of entries ever added, and the greatest
+-- id ever deleted, or 0-0
 pub record StreamState : Type 0 where
   pub top : Id
   pub entries : List (Id × List Field)
   pub added : ℕ
   pub deleted : Id
 
--- a stream, and for how many bytes there is room in the memory that it has
+-- a stream, and the bytes of room in the memory that it has
 pub record StreamInMemory : Type 0 where
   pub top : Id
   pub entries : List (Id × List Field)
@@ -25,7 +25,7 @@ pub record StreamInMemory : Type 0 where
   pub deleted : Id
   pub room : ℕ
 
--- what it keeps, whatever memory it has for that
+-- its content, whatever memory it has for that
 abbrev pub state_of : StreamInMemory → StreamState
 state_of s = record { top = s.top; entries = s.entries; added = s.added; deleted = s.deleted }
 
@@ -55,7 +55,7 @@ AllUpTo top (x ∷ xs) = (is_below top x ≡ false) × AllUpTo top xs
 abbrev pub fields_at : List (Id × List Field) → Id → Option (List Field)
 fields_at entries id = lookup (is_same_id id) entries
 
--- with an entry behind the others
+-- with an entry after the others
 abbrev pub with_entry : Id → List Field → StreamState → StreamState
 with_entry id fields s =
     record s { top = id; entries = s.entries ++ (id, fields) ∷ []; added = s.added + 1 }
@@ -74,7 +74,7 @@ abbrev pub with_deleted : List Id → StreamState → StreamState
 with_deleted ids s =
     record s { entries = without ids s.entries; deleted = greatest s.deleted (filter (has_id ids) (ids_of s.entries)) }
 
--- how many of these ids are above x
+-- the number of these ids that are above x
 abbrev pub count_above : Id → List Id → ℕ
 count_above x ids = length (filter (λ y. is_below x y) ids)
 
@@ -107,7 +107,7 @@ all_within range reversed entries =
     let within = filter (λ e. is_within range e.0) entries in
     if reversed then reverse within else within
 
--- at most so many of them
+-- at most this many of them
 abbrev pub entries_within : Range → Bool → Option ℕ → List (Id × List Field) → List (Id × List Field)
 entries_within range reversed None entries = all_within range reversed entries
 entries_within range reversed (Some n) entries = take n (all_within range reversed entries)

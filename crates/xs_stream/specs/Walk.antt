@@ -1,4 +1,4 @@
--- A walk over the entries of a stream: what is left of a block, the filed blocks behind it, and the newest entries.
+-- A walk over the entries of a stream: what is left of a block, the filed blocks after it, and the newest entries.
 use Rattle.std.specs.Prelude.{◌<◌, List, [], ◌∷◌, ◌++◌, length}
 use Rattle.xs_stream.specs.declared.id.Id.{Id}
 use Rattle.xs_stream.specs.declared.field.Field.{Field}

@@ -2,7 +2,7 @@
 use crate::id::Id;
 use thiserror::Error;
 
-/// The id that an addition asks for.
+/// The id that an addition requests.
 #[derive(Clone, Copy, Debug, PartialEq, Eq)]
 pub enum AddId {
     /// `*`: the moment, or the successor of the top.

@@ -1,4 +1,4 @@
-//! A block: entries that stand next to each other in a stream, packed into bytes.
+//! A block: adjacent entries of a stream, packed into bytes.
 ghost use Rattle.std.specs.Prelude.{◌≡◌, ◌+◌, ◌-◌, ◌^◌, ◌<◌, ◌≤◌, ◌==◌, ◌++◌, ◌∷◌, []};
 ghost use Rattle.std.specs.Prelude.{true, false, if◌then◌else◌, OnOk, OnErr, IfOk};
 ghost use Rattle.std.specs.Prelude.{length, filter, take, drop, reverse, vec_len};
@@ -24,31 +24,31 @@ use crate::range::Range;
 use std::alloc::{AllocError, Global};
 use std::marker::Model;
 
-/// No block has more entries.
+/// The most entries of a block.
 const MOST_ENTRIES: usize = 128;
 
-/// How many bytes a block of many small entries has room for.
+/// The bytes of room in a block of many small entries.
 const BLOCK_BYTES: usize = 2560;
 
-/// How many bytes aren't worth giving back. The C library keeps pieces so small apart, and joins each with its
-/// neighbours when a stream goes.
+/// The most bytes that aren't worth giving back. The C library keeps such small pieces apart, and joins each with its
+/// neighbours when a stream is removed.
 const SMALL_PIECE: usize = 128;
 
-/// How many bytes an entry may take more in another block.
+/// The most bytes that an entry may take more in another block.
 const MOST_LONGER: usize = 8;
 
-/// How many bytes an entry mostly takes beside its values.
+/// The bytes that an entry mostly takes in addition to its values.
 const BESIDE_VALUES: u64 = 12;
 
-/// Entries that stand next to each other in a stream, in the order of their ids. A contract sees the list of them,
-/// and how much memory there is for them.
+/// Adjacent entries of a stream, in the order of their ids. A contract sees the list of them, and how much memory there
+/// is for them.
 #[derive(Drop)]
 pub(crate) struct Block {
-    /// The milliseconds of the entry that was the first, from which those of all are counted.
+    /// The milliseconds of the entry that was the first, above which those of all are stored.
     base: u64,
-    /// How many entries there are.
+    /// The number of entries.
     count: usize,
-    /// Where the entries begin. Bytes of entries that are gone may lie before it, behind the names.
+    /// The index of the entries. Bytes of removed entries may be before it, after the names.
     start: usize,
     /// The names of the entry that was the first, and then the entries.
     bytes: Vec<u8>,
@@ -70,7 +70,7 @@ impl Model for Block {
 }
 
 impl Block {
-    /// A block of no entries. It takes no memory.
+    /// A block without entries. It takes no memory.
     pub(crate) fn new(alloc: Global) -> Self
         ensures { result.entries ≡ [] }
     {
@@ -82,7 +82,7 @@ impl Block {
         }
     }
 
-    /// A block of no entries, with all the memory that many small ones take, if there is so much.
+    /// A block without entries, with all the memory that many small ones take, if there is that much.
     pub(crate) fn with_room(alloc: Global) -> Self
         ensures { result.entries ≡ [] }
     {
@@ -96,7 +96,7 @@ impl Block {
         }
     }
 
-    /// How many bytes of memory it has.
+    /// The number of bytes of its memory.
     pub(crate) fn room(&self) -> usize
         ensures value { result ≡ self.now.room }
         ensures small { result < 2 ^ 63 }
@@ -104,7 +104,7 @@ impl Block {
         self.bytes.capacity()
     }
 
-    /// How many entries there are.
+    /// The number of entries.
     pub(crate) fn len(&self) -> usize
         ensures { result ≡ length self.now.entries }
     {
@@ -118,7 +118,7 @@ impl Block {
         self.count == 0
     }
 
-    /// Whether another entry belongs here, whose values take so many bytes. An empty block has room for each.
+    /// Whether another entry, whose values take `values` bytes, belongs here. An empty block has room for any.
     pub(crate) fn has_room(&self, values: u64) -> bool
         ensures room { result ≡ true → length self.now.entries < 128 }
         ensures some { result ≡ false → 0 < length self.now.entries }
@@ -142,7 +142,7 @@ impl Block {
         }
     }
 
-    /// Puts an entry behind the others, whose values take so many bytes.
+    /// Appends an entry whose values take `values` bytes.
     pub(crate) fn push(&mut self, id: Id, values: u64, fields: &[Field]) -> Result<(), AllocError>
         requires room { length self.old.entries < 128 }
         requires values { values ≡ length (flat_map (field_code true) fields.now) }
@@ -156,7 +156,7 @@ impl Block {
         }
     }
 
-    /// Puts the first entry in, and its names before it.
+    /// Inserts the first entry, with its names before it.
     fn begin(&mut self, id: Id, values: u64, fields: &[Field]) -> Result<(), AllocError>
         requires none { self.old.entries ≡ [] }
         requires values { values ≡ length (flat_map (field_code true) fields.now) }
@@ -180,7 +180,7 @@ impl Block {
         }
     }
 
-    /// Puts an entry behind others.
+    /// Appends an entry to others.
     fn append(&mut self, id: Id, values: u64, fields: &[Field]) -> Result<(), AllocError>
         requires room { length self.old.entries < 128 }
         requires some { 0 < length self.old.entries }
@@ -202,13 +202,13 @@ impl Block {
         }
     }
 
-    /// Whether less than a quarter of a block of small entries is left, and less than half of its memory is taken.
+    /// Whether less than a quarter of a block of small entries is left, and less than half of its memory is used.
     pub(crate) fn is_sparse(&self) -> bool {
         let len = self.bytes.len();
         len < BLOCK_BYTES / 4 && len < self.bytes.capacity() / 2
     }
 
-    /// Whether the entries of another block fit into the memory that it has, and belong there by their number.
+    /// Whether the entries of another block fit into the memory of this one, and belong here by their number.
     fn has_room_for(&self, other: &Block) -> bool
         ensures { result ≡ true → length self.now.entries + length other.now.entries ≤ 128 }
     {
@@ -221,8 +221,8 @@ impl Block {
         entries.saturating_add(longer) <= left
     }
 
-    /// Puts the entries of another block behind its own, if they have the same names and fit into the memory that it
-    /// has, and says whether it did.
+    /// Appends the entries of another block, if they have the same names and fit into the memory of this one. Returns
+    /// whether it did.
     pub(crate) fn take_in(&mut self, other: &Block) -> bool
         requires { 0 < length self.old.entries }
         ensures { self.new.entries ≡ (if result then self.old.entries ++ other.now.entries else self.old.entries) }
@@ -281,12 +281,12 @@ impl Block {
         self.packed().fields_of(id)
     }
 
-    /// Takes the entry with this id out, and says whether there was one.
+    /// Removes the entry with this id, and returns whether there was one.
     pub(crate) fn remove(&mut self, id: Id) -> bool
         ensures entries { self.new.entries ≡ remove_entry (is_same_id id) self.old.entries }
         ensures count { length self.new.entries + (if result then 1 else 0) ≡ length self.old.entries }
     {
-        // The contract of `packed` tells the entries; this needs where they lie.
+        // The contract of `packed` gives the entries; this needs their places.
         let entries = PackedEntries {
             base: self.base,
             count: self.count,
@@ -306,7 +306,7 @@ impl Block {
         true
     }
 
-    /// Takes the entry with this id out of a block that has no neighbours to join, and says whether there was one.
+    /// Removes the entry with this id from a block that has no neighbours to join, and returns whether there was one.
     pub(crate) fn remove_alone(&mut self, id: Id) -> bool
         ensures entries { self.new.entries ≡ remove_entry (is_same_id id) self.old.entries }
         ensures count { length self.new.entries + (if result then 1 else 0) ≡ length self.old.entries }
@@ -318,7 +318,7 @@ impl Block {
         removed
     }
 
-    /// Takes all entries out.
+    /// Removes all entries.
     pub(crate) fn clear(&mut self)
         ensures { self.new.entries ≡ [] }
     {
@@ -327,7 +327,7 @@ impl Block {
         self.bytes.clear();
     }
 
-    /// Takes the first entries out. If none is left it gives its memory back.
+    /// Removes the first entries. If none is left, the memory is given back.
     pub(crate) fn drop_first(&mut self, count: usize)
         ensures { self.new.entries ≡ drop count self.old.entries }
     {
@@ -339,7 +339,7 @@ impl Block {
         }
     }
 
-    /// Takes some of the entries out, the first ones.
+    /// Removes the first entries, of which some are left.
     fn drop_some(&mut self, count: usize)
         requires { count < length self.old.entries }
         ensures { self.new.entries ≡ drop count self.old.entries }
@@ -351,7 +351,7 @@ impl Block {
         self.tidy();
     }
 
-    /// Tidies up, and gives memory back if its entries take less than half of it. A sparse block keeps it: another one
+    /// Tidies up, and gives memory back if the entries take less than half of it. A sparse block keeps it: another one
     /// may fit in.
     fn compact(&mut self)
         requires { 0 < length self.old.entries }
@@ -364,14 +364,14 @@ impl Block {
         }
     }
 
-    /// How many bytes its entries take.
+    /// The number of bytes of its entries.
     fn entries_size(&self) -> usize {
         self.bytes.len() - self.start
     }
 
-    /// Cuts out what lies before the entries and isn't needed, once it may be more than a quarter: the names, if no
-    /// entry has them, and what lies between them and the entries. So each byte moves few times in all, whether entries
-    /// go one by one or many at once.
+    /// Cuts out the bytes before the entries that aren't needed, once they may be more than a quarter: the names, if no
+    /// entry has them, and the bytes between them and the entries. So each byte moves only a few times, whether entries
+    /// are removed one by one or many at once.
     #[inline(always)]
     fn tidy(&mut self)
         requires { 0 < length self.old.entries }
@@ -397,7 +397,7 @@ impl Block {
         }
     }
 
-    /// Cuts out what lies between the names and the entries, if it is more than so many bytes.
+    /// Cuts out the bytes between the names and the entries, if they are more than `most`.
     fn cut_gap(&mut self, most: usize)
         requires { 0 < length self.old.entries }
         ensures { self.new.entries ≡ self.old.entries }
@@ -409,7 +409,7 @@ impl Block {
         }
     }
 
-    /// How many of its entries have ids below this one.
+    /// The number of its entries with ids below this one.
     pub(crate) fn count_below(&self, low: Id) -> usize
         ensures { result ≡ length (filter (λ e. is_below e.0 low) self.now.entries) }
     {
@@ -450,8 +450,8 @@ impl Block {
     }
 }
 
-/// How many bytes a block with this many entries has room for. Few great ones share what each block costs, and among
-/// many small ones a search has less to pass over.
+/// The bytes of room in a block with this many entries. A few large entries share the cost of each block, and among
+/// many small ones a search has less to skip.
 fn room_beside(count: usize) -> usize {
     if count < 8 {
         return 8192;
@@ -479,7 +479,8 @@ fn has_same_names(bytes: &[u8], others: &[u8]) -> bool
     names == other_names
 }
 
-/// Appends the names of an entry, and then the entry, and says where that begins. A refusal may leave a part behind.
+/// Appends the names of an entry, and then the entry, and returns where that begins. If memory runs out, a part may be
+/// appended.
 fn push_first(
     bytes: &mut Vec<u8>,
     id: Id,
@@ -497,7 +498,7 @@ fn push_first(
     Ok(start)
 }
 
-/// Where the names end that bytes begin with.
+/// The end of the names at the front of bytes.
 fn names_end(bytes: &[u8]) -> usize
     ensures { result ≡ length bytes.now - length (after_text bytes.now) }
 {
@@ -505,7 +506,7 @@ fn names_end(bytes: &[u8]) -> usize
     bytes.len() - behind.len()
 }
 
-/// Leaves missing names in the place of what lies before the entries.
+/// Replaces the bytes before the entries by missing names.
 fn drop_front(bytes: &mut Vec<u8>, start: usize)
     requires some { 0 < start }
     requires inside { start ≤ vec_len bytes.old }
@@ -515,7 +516,7 @@ fn drop_front(bytes: &mut Vec<u8>, start: usize)
     bytes[0] = 0;
 }
 
-/// Turns the order of the items from a place on.
+/// Reverses the order of the items from a place on.
 fn reverse_from<T>(items: &mut Vec<T>, from: usize)
     requires { from ≤ vec_len items.old }
     ensures { items.new.items ≡ take from items.old.items ++ reverse (drop from items.old.items) }

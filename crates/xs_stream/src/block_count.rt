@@ -7,12 +7,12 @@ use crate::id::Id;
 use std::collections::btree_map;
 use std::marker::Model;
 
-/// A count of the entries of filed blocks that stand next to each other.
+/// A count of the entries of adjacent filed blocks.
 #[derive(Drop)]
 pub(crate) struct BlockCount<'a> {
     /// The blocks whose entries aren't counted yet.
     left: btree_map::Range<'a, Id, Block>,
-    /// How many entries the others have.
+    /// The number of entries of the others.
     count: usize,
 }
 
@@ -25,7 +25,7 @@ impl<'a> Model for BlockCount<'a> {
 }
 
 impl<'a> BlockCount<'a> {
-    /// None of these blocks is counted yet.
+    /// A count that hasn't begun: none of these blocks is counted yet.
     pub(crate) fn new(blocks: btree_map::Range<'a, Id, Block>) -> Self
         ensures none { result.count ≡ 0 }
         ensures left { result.left ≡ blocks.entry }
@@ -36,14 +36,14 @@ impl<'a> BlockCount<'a> {
         }
     }
 
-    /// How many entries were counted.
+    /// The number of entries that were counted.
     pub(crate) fn count(&self) -> usize
         ensures { result ≡ self.now.count }
     {
         self.count
     }
 
-    /// Counts the entries of the next blocks, at most so many. It says whether no block is left.
+    /// Counts the entries of the next blocks, at most `most` blocks. Returns whether no block is left.
     pub(crate) fn count_next(&mut self, most: usize) -> bool
         requires fits { total_of self.old < 2 ^ 63 }
         ensures counted { total_of self.new ≡ total_of self.old }

@@ -29,28 +29,28 @@ use std::mem;
 use std::ops::Bound;
 use xs_bytes::U63;
 
-/// No stream has more entries, since replies tell their number as `U63`.
+/// The most entries of a stream, since replies give their number as `U63`.
 const MOST_IN_STREAM: usize = U63::MAX as usize;
 
-/// How many blocks are counted at a time on the side of a cursor that has fewer, if ids come evenly.
+/// How many blocks are counted at a time on the side of a cursor that has fewer, if ids are spread evenly.
 const NEAR_BLOCKS: usize = 8;
 
-/// How many are counted meanwhile on the other side, which has fewer if they don't.
+/// How many are counted meanwhile on the other side, which has fewer if they aren't.
 const FAR_BLOCKS: usize = 1;
 
-/// How many bytes a filed block takes beside its own: its place in the tree.
+/// The bytes that a filed block takes in addition to its own: its place in the tree.
 const PLACE_ROOM: u128 = 128;
 
-/// The entries of a stream. What is added comes to the newest. Once these fill a block, it is filed under the top of
-/// the stream as it is then: none of its entries is above that id, and all later ones are.
+/// The entries of a stream. An addition goes to the newest ones. Once these fill a block, it is filed under the top
+/// that the stream has then: none of its entries is above that id, and all later ones are.
 #[derive(Drop)]
 pub(crate) struct Entries {
     /// The filed blocks. None of them is empty.
     older: BTreeMap<Id, Block>,
     newest: Block,
-    /// How many entries there are.
+    /// The number of entries.
     len: usize,
-    /// How many bytes the filed blocks take. Their sum is below 2^128, whatever they take.
+    /// The number of bytes of the filed blocks. Their sum is below 2^128.
     room: u128,
     alloc: Global,
 }
@@ -71,14 +71,14 @@ impl Entries {
         }
     }
 
-    /// How many there are.
+    /// The number of entries.
     pub(crate) fn len(&self) -> usize
         ensures { result ≡ self.now.len }
     {
         self.len
     }
 
-    /// How many bytes the blocks take.
+    /// The number of bytes of the blocks.
     pub(crate) fn room(&self) -> u128
         requires { IsMeasured self.now }
         ensures value { result ≡ room_of self.now }
@@ -87,7 +87,7 @@ impl Entries {
         self.room + self.newest.room() as u128
     }
 
-    /// The id under which the one block is filed that may have the entry with this id. None where only the newest may.
+    /// The id under which the only block is filed that may have the entry with this id. None if only the newest may.
     #[inline(always)]
     fn block_of(&self, id: Id) -> Option<Id>
         ensures { result ≡ lookup_key (λ under. not (is_below under id)) (contents self.now.older.entries) }
@@ -99,7 +99,7 @@ impl Entries {
         }
     }
 
-    /// The id under which the first block is filed behind this id.
+    /// The id under which the first block after this id is filed.
     fn block_after(&self, under: Id) -> Option<Id>
         ensures { result ≡ lookup_key (λ other. is_below under other) (contents self.now.older.entries) }
     {
@@ -110,7 +110,7 @@ impl Entries {
         }
     }
 
-    /// The id under which the last block is filed before this id.
+    /// The id under which the last block before this id is filed.
     fn block_before(&self, under: Id) -> Option<Id> {
         let mut to = self.older.range((Bound::Unbounded, Bound::Excluded(under)));
         match to.next_back() {
@@ -143,7 +143,7 @@ impl Entries {
         }
     }
 
-    /// Files the newest entries as a block under the top, if another one, whose values take so many bytes, doesn't
+    /// Files the newest entries as a block under the top, if another one, whose values take `values` bytes, doesn't
     /// belong to them.
     fn make_room(&mut self, top: Id, values: u64) -> Result<(), AllocError>
         requires laid_down { IsLaidDown self.old }
@@ -173,7 +173,7 @@ impl Entries {
         }
     }
 
-    /// Puts an entry behind the others, above the top.
+    /// Appends an entry above the top.
     pub(crate) fn push(&mut self, top: Id, id: Id, fields: &[Field]) -> Result<(), AllocError>
         requires laid_down { IsLaidDown self.old }
         requires up_to_top { AllUpTo top (ids_of (all_of self.old)) }
@@ -196,7 +196,7 @@ impl Entries {
         Ok(())
     }
 
-    /// Takes away the block under this id.
+    /// Removes the block under this id.
     fn remove_block(&mut self, under: Id)
         requires measured { IsMeasured self.old }
         ensures blocks { self.new.older.entries ≡ remove_entry (is_same_id under) self.old.older.entries }
@@ -210,7 +210,7 @@ impl Entries {
     }
 
     /// Puts the entries of a block in front of those of the block under this id, if both fit into the memory of the
-    /// first one, and says whether it did.
+    /// first one. Returns whether it did.
     fn join_into(&mut self, next: Id, front: &mut Block) -> bool
         requires some { 0 < length front.old.entries }
         requires measured { IsMeasured self.old }
@@ -233,7 +233,7 @@ impl Entries {
         true
     }
 
-    /// Joins the block under this id with the one behind it, if both fit into the memory of the first one.
+    /// Joins the block under this id with the one after it, if both fit into the memory of the first one.
     fn join_next(&mut self, under: Id)
         requires filed { AreFiled (contents self.old.older.entries) self.old.newest.entries }
         requires measured { IsMeasured self.old }
@@ -261,8 +261,7 @@ impl Entries {
         }
     }
 
-    /// Joins the block under this id with the one behind it, and the one before it with what comes behind that, if they
-    /// fit.
+    /// Joins the block under this id with the one after it, and the one before it with what follows that, if they fit.
     fn join_around(&mut self, under: Id)
         requires filed { AreFiled (contents self.old.older.entries) self.old.newest.entries }
         requires measured { IsMeasured self.old }
@@ -278,7 +277,7 @@ impl Entries {
         }
     }
 
-    /// Joins the block under this id with those around it, if they fit, and gives back the memory that is left over.
+    /// Joins the block under this id with those around it, if they fit, and gives back the memory that isn't needed.
     fn tighten(&mut self, under: Id)
         requires filed { AreFiled (contents self.old.older.entries) self.old.newest.entries }
         requires measured { IsMeasured self.old }
@@ -307,8 +306,8 @@ impl Entries {
         }
     }
 
-    /// Takes an entry out of the block under this id, and says whether it was there, and whether the block is sparse
-    /// now. It isn't counted yet.
+    /// Removes an entry from the block under this id. Returns whether it was there, and whether the block is sparse
+    /// now. The number of entries isn't changed.
     fn take_from(&mut self, under: Id, id: Id) -> (bool, bool)
         requires filed { AreFiled (contents self.old.older.entries) self.old.newest.entries }
         requires measured { IsMeasured self.old }
@@ -333,7 +332,7 @@ impl Entries {
         (removed, is_sparse)
     }
 
-    /// Takes the entry with this id out, and says whether it was there. It isn't counted yet.
+    /// Removes the entry with this id. Returns whether it was there. The number of entries isn't changed.
     fn take(&mut self, id: Id) -> bool
         requires filed { AreFiled (contents self.old.older.entries) self.old.newest.entries }
         requires measured { IsMeasured self.old }
@@ -356,7 +355,7 @@ impl Entries {
         }
     }
 
-    /// Removes the entry with this id, and says whether it was there.
+    /// Removes the entry with this id, and returns whether it was there.
     fn remove(&mut self, id: Id) -> bool
         requires { IsLaidDown self.old }
         ensures there { result ≡ has_id (ids_of (all_of self.old)) id }
@@ -371,7 +370,7 @@ impl Entries {
         there
     }
 
-    /// Removes the entries with these ids, and gives the greatest of these and of another id.
+    /// Removes the entries with these ids. Returns the greatest of them and of another id.
     pub(crate) fn remove_all(&mut self, ids: &[Id], other: Id) -> Id
         requires laid_down { IsLaidDown self.old }
         requires ascends { Ascends (ids_of (all_of self.old)) }
@@ -389,7 +388,7 @@ impl Entries {
         greatest
     }
 
-    /// Removes the first entries, up to this many, from the first block, and says how many are left to remove.
+    /// Removes the first entries, at most `count`, from the first block. Returns how many are left to remove.
     fn drop_step(&mut self, count: usize) -> usize
         requires some { 0 < count }
         requires laid_down { IsLaidDown self.old }
@@ -434,7 +433,7 @@ impl Entries {
         }
     }
 
-    /// Removes the first block where it is filed under an id below this one, and says whether it did.
+    /// Removes the first block if it is filed under an id below this one. Returns whether it did.
     fn drop_block_below(&mut self, low: Id) -> bool
         requires laid_down { IsLaidDown self.old }
         requires ascends { Ascends (ids_of (all_of self.old)) }
@@ -459,8 +458,8 @@ impl Entries {
         true
     }
 
-    /// How many entries have ids below this one, of those that aren't in blocks filed below it: only the first of the other
-    /// blocks may have any.
+    /// The number of entries with ids below this one, without those in blocks filed below it: only the first of the
+    /// other blocks may have any.
     fn count_beside(&self, low: Id) -> usize
         requires { IsLaidDown self.now }
         ensures { result ≡ length (filter (λ e. is_below e.0 low) (entries_from low self.now)) }
@@ -471,7 +470,7 @@ impl Entries {
         }
     }
 
-    /// How many entries have ids below this one.
+    /// The number of entries with ids below this one.
     fn count_below(&self, low: Id) -> usize
         requires { IsLaidDown self.now }
         ensures { result ≡ length (filter (λ e. is_below e.0 low) (all_of self.now)) }
@@ -511,7 +510,7 @@ impl Entries {
         }
     }
 
-    /// Where a walk down through the blocks begins that may meet no id above this one.
+    /// The end of the blocks that may have ids that aren't above this one. A walk down begins there.
     fn end_at(&self, high: Id) -> Bound<Id>
         ensures { result ≡ end_at high (contents self.now.older.entries) }
     {
@@ -543,8 +542,8 @@ impl Entries {
         Ok(shown)
     }
 
-    /// Whether an id is nearer to those of the first blocks than to those of the last ones, so that fewer blocks are below it
-    /// than above it, if ids come evenly.
+    /// Whether an id is nearer to those of the first blocks than to those of the last ones, so that fewer blocks are
+    /// below it than above it if ids are spread evenly.
     fn is_nearer_first(&self, id: Id) -> bool {
         match (self.older.first_key_value(), self.older.last_key_value()) {
             (Some((first, _)), Some((last, _))) => {
@@ -554,8 +553,8 @@ impl Entries {
         }
     }
 
-    /// How many entries have ids above a cursor. The blocks on both sides of it are counted by turns, until one side has no
-    /// more: more of them at a time on the side that has fewer, if ids come evenly.
+    /// The number of entries with ids above a cursor. The blocks on both sides of it are counted by turns, until one
+    /// side has no more: more of them at a time on the side that has fewer if ids are spread evenly.
     pub(crate) fn count_past(&self, cursor: Id) -> usize
         requires laid_down { IsLaidDown self.now }
         requires ids { AllIds (ids_of (all_of self.now)) }
@@ -606,7 +605,7 @@ impl Entries {
     }
 }
 
-/// How many entries there are beyond the most that may stay.
+/// The number of entries beyond the most that may stay.
 fn surplus(len: usize, most: u64) -> usize
     ensures { result ≡ len - most }
 {
@@ -616,7 +615,7 @@ fn surplus(len: usize, most: u64) -> usize
     len - most as usize
 }
 
-/// A sum in which one part has become another.
+/// A sum in which one part is replaced.
 fn sum_after(sum: u128, before: usize, after: usize) -> u128
     requires part { before ≤ sum }
     requires fits { sum + after < 2 ^ 128 }

@@ -1,4 +1,4 @@
-//! Examples of what the definitions say, with values from outside.
+//! Examples of the definitions, with expected values from outside.
 #![tactic(auto, unfolding(crate::proofs::Computing::example_functions))]
 
 ghost use Rattle.xs_stream.specs.Examples.{Order, Bounds, Numbers, Neighbours, Assigned, Texts, Ends};
@@ -14,7 +14,7 @@ pub fn bounds()
     ensures { Bounds }
 {}
 
-/// What an id's numbers are.
+/// The numbers of an id.
 pub fn numbers()
     ensures { Numbers }
 {}

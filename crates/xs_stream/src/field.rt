@@ -1,4 +1,4 @@
-//! The fields of an entry, in the order in which they were given.
+//! The fields of an entry, in the order in which they were added.
 use xs_bytes::Bytes;
 
 /// A field of an entry. Names may repeat within an entry, and may be empty, as values may.

@@ -11,7 +11,7 @@ use xs_bytes::{Bytes, number, push_decimal};
 /// The id of an entry. Ids are ordered by milliseconds, then by sequence.
 #[derive(Clone, Copy, Debug, PartialEq, Eq, PartialOrd, Ord)]
 pub struct Id {
-    /// Milliseconds, as a moment has them.
+    /// Milliseconds, like those of a moment.
     pub ms: u64,
     /// The place among the ids of one millisecond.
     pub seq: u64,
@@ -65,15 +65,15 @@ impl Id {
         None
     }
 
-    /// How many ids there are below this one.
+    /// The number of ids below this one.
     pub(crate) fn rank(self) -> u128
         ensures { result ≡ rank_of self }
     {
         u128::from(self.ms) * (1 << 64) + u128::from(self.seq)
     }
 
-    /// Reads `ms-seq`, or `ms` alone, whose sequence is then `missing_seq`. Each number has one to
-    /// twenty digits, and leading zeros are accepted. None for any other text.
+    /// Reads `ms-seq`, or only `ms`, whose sequence is then `missing_seq`. Each number has one to twenty digits, and
+    /// leading zeros are accepted. None for any other text.
     pub fn parse(text: &[u8], missing_seq: u64) -> Option<Id>
         ensures { result ≡ parse_id text.now missing_seq }
     {
@@ -90,7 +90,7 @@ impl Id {
         }
     }
 
-    /// Appends the printed id, `ms-seq`. `out` is unchanged on refusal.
+    /// Appends the printed id, `ms-seq`. If memory runs out, `out` is unchanged.
     pub fn write(&self, out: &mut Vec<u8>) -> Result<(), AllocError>
         ensures ok { OnOk result (out.new.items ≡ out.old.items ++ id_text self.now) }
         ensures err { OnErr result (out.new.items ≡ out.old.items) }
@@ -116,7 +116,7 @@ impl Id {
         Bytes::join(alloc, ms, b'-', seq)
     }
 
-    /// As `write`, but a refusal may leave a part behind.
+    /// Like `write`, but if memory runs out a part may be appended.
     fn write_parts(&self, out: &mut Vec<u8>) -> Result<(), AllocError>
         ensures ok { OnOk result (out.new.items ≡ out.old.items ++ id_text self.now) }
         ensures err { OnErr result (take (vec_len out.old) out.new.items ≡ out.old.items) }
@@ -127,7 +127,7 @@ impl Id {
     }
 }
 
-/// Where the first dash stands.
+/// The place of the first dash.
 fn dash_in(text: &[u8]) -> Option<usize>
     ensures place { result ≡ position (λ byte. byte == 45) text.now }
     ensures inside { IfSome result (λ dash. dash < length text.now) }

@@ -14,9 +14,9 @@ use std::marker::Model;
 pub struct LentEntries<'a> {
     /// What is left of the block where the walk is.
     pub(crate) block: BlockWalk<'a>,
-    /// The filed blocks behind it.
+    /// The filed blocks after it.
     pub(crate) older: btree_map::Iter<'a, Id, Block>,
-    /// The newest entries, behind all of them.
+    /// The newest entries, after all of them.
     pub(crate) newest: BlockWalk<'a>,
 }
 

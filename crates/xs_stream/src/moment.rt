@@ -3,7 +3,7 @@ ghost use Rattle.std.specs.Prelude.{◌≡◌, ◌<◌, ◌^◌, Some, None, nat
 
 use std::marker::Model;
 
-/// A moment, in milliseconds, from 0 to 9223372036854775807. Moments are handed in and may go back.
+/// A moment, in milliseconds, from 0 to 9223372036854775807. Moments come from the caller and may go back.
 #[derive(Clone, Copy, Debug, PartialEq, Eq, PartialOrd, Ord)]
 pub struct Moment {
     millis: u64,
@@ -25,7 +25,7 @@ impl Moment {
     /// The greatest moment in milliseconds.
     pub const MAX_MILLIS: u64 = 9_223_372_036_854_775_807;
 
-    /// The moment at that many milliseconds, or None above 9223372036854775807.
+    /// The moment at this number of milliseconds. None above 9223372036854775807.
     pub fn new(millis: u64) -> Option<Moment>
         ensures { result ≡ (if nat_lt millis (2 ^ 63) then Some millis else None) }
     {

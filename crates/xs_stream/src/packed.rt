@@ -1,4 +1,4 @@
-//! Entries as they stand in bytes.
+//! Entries as they are stored in bytes.
 
 pub(crate) mod entry;
 pub mod fields;

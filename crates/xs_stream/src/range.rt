@@ -5,7 +5,7 @@ ghost use Rattle.xs_stream.specs.StreamContent.{is_within};
 
 use crate::id::Id;
 
-/// A range of ids. Both ends belong to it. It is empty where the low end is above the high one.
+/// A range of ids. Both ends belong to it. It is empty if the low end is above the high one.
 #[derive(Clone, Copy, Debug, PartialEq, Eq)]
 pub struct Range {
     /// The least id that may belong to it.
@@ -15,9 +15,9 @@ pub struct Range {
 }
 
 impl Range {
-    /// Reads the two ends. `-` and `+` are the least and the greatest id, `(` before an id leaves the
-    /// id itself out. A missing sequence is 0 at the low end and the last one at the high end. None
-    /// where an end can't be read, or nothing is left beyond `(`.
+    /// Reads the two ends. `-` and `+` are the least and the greatest id, `(` before an id excludes the id itself. A
+    /// missing sequence is 0 at the low end and the last one at the high end. None if an end can't be read, or no id is
+    /// left after `(`.
     pub fn parse(low: &[u8], high: &[u8]) -> Option<Range>
         ensures { result ≡ range_between (low_end low.now) (high_end high.now) }
     {

@@ -23,8 +23,8 @@ use std::alloc::{AllocError, Global};
 use std::marker::Model;
 use xs_bytes::List;
 
-/// A stream of entries. A contract sees its top id, the list of its entries, how many were ever added, the greatest id
-/// that was ever deleted, and how much memory there is for the entries.
+/// A stream of entries. A contract sees its top id, the list of its entries, the number of entries ever added, the
+/// greatest id ever deleted, and how much memory there is for the entries.
 #[derive(Drop)]
 pub struct Stream {
     top: Id,
@@ -63,7 +63,7 @@ impl Stream {
         }
     }
 
-    /// The greatest id ever added, or `0-0`. Deletions and trims leave it.
+    /// The greatest id ever added, or `0-0`. Deletions and trims don't change it.
     pub fn top(&self) -> Id
         ensures value { result ≡ self.now.top }
         ensures greatest { AllUpTo self.now.top (ids_of self.now.entries) }
@@ -71,21 +71,21 @@ impl Stream {
         self.top
     }
 
-    /// How many entries were ever added.
+    /// The number of entries ever added.
     pub fn added(&self) -> u128
         ensures { result ≡ self.now.added }
     {
         self.added
     }
 
-    /// The greatest id that was ever deleted, or `0-0`. Trims leave it.
+    /// The greatest id that was ever deleted, or `0-0`. Trims don't change it.
     pub fn deleted(&self) -> Id
         ensures { result ≡ self.now.deleted }
     {
         self.deleted
     }
 
-    /// How many entries there are.
+    /// The number of entries.
     pub fn len(&self) -> usize
         ensures value { result ≡ length self.now.entries }
         ensures small { result < 2 ^ 63 }
@@ -93,7 +93,7 @@ impl Stream {
         self.entries.len()
     }
 
-    /// How many entries have ids above a cursor.
+    /// The number of entries with ids above a cursor.
     pub fn count_past(&self, cursor: Id) -> u64
         ensures value { result ≡ count_above cursor (ids_of self.now.entries) }
         ensures small { result < 2 ^ 63 }
@@ -101,7 +101,7 @@ impl Stream {
         self.entries.count_past(cursor) as u64
     }
 
-    /// How many bytes its entries take, with the memory that is kept for further ones.
+    /// The number of bytes that its entries take, with the memory for further ones.
     pub fn room(&self) -> u128
         ensures value { result ≡ self.now.room }
         ensures small { result < 2 ^ 127 }
@@ -134,7 +134,7 @@ impl Stream {
         assigned_id(now, self.top, id)
     }
 
-    /// Puts an entry with an id above the top behind the others. What the stream keeps is unchanged on refusal.
+    /// Appends an entry with an id above the top. If memory runs out, the content is unchanged.
     pub fn push(&mut self, id: Id, fields: &[Field]) -> Result<(), AllocError>
         requires { is_below self.old.top id ≡ true }
         ensures ok { OnOk result (state_of self.new ≡ with_entry id fields.now (state_of self.old)) }
@@ -150,9 +150,9 @@ impl Stream {
         }
     }
 
-    /// Sets what the entries of a stream that is read from a snapshot don't tell: its top id, how many entries were
-    /// ever added, and the greatest id that was ever deleted; and says whether it did. It refuses, and changes nothing,
-    /// a top below the present one, and more additions than there are ids up to the top.
+    /// Sets what the entries of a stream that is read from a snapshot don't determine: its top id, the number of
+    /// entries ever added, and the greatest id ever deleted. Returns whether it did. It refuses, and changes nothing,
+    /// if the top is below the present one, or if there are more additions than ids up to the top.
     pub fn restore(&mut self, top: Id, added: u128, deleted: Id) -> bool
         ensures fits { result ≡ is_history_after self.old.top top added }
         ensures restored { result ≡ true → self.new ≡ record self.old { top = top; added = added; deleted = deleted } }
@@ -167,7 +167,7 @@ impl Stream {
         true
     }
 
-    /// Adds an entry above all that were ever added (XADD). What the stream keeps is unchanged on each error.
+    /// Adds an entry above all that were ever added (XADD). On any error the content is unchanged.
     pub fn add(&mut self, now: Moment, id: AddId, fields: &[Field]) -> Result<Id, AddError>
         ensures ok { IfOk result (λ given. (id_of_addition now self.old.top id ≡ Ok given)
             × (state_of self.new ≡ with_entry given fields.now (state_of self.old))) }
@@ -183,7 +183,7 @@ impl Stream {
         }
     }
 
-    /// Removes the entries with these ids, and says how many there were (XDEL).
+    /// Removes the entries with these ids, and returns how many there were (XDEL).
     pub fn delete(&mut self, ids: &[Id]) -> u64
         ensures entries { state_of self.new ≡ with_deleted ids.now (state_of self.old) }
         ensures count { result + length self.new.entries ≡ length self.old.entries }
@@ -194,7 +194,7 @@ impl Stream {
         (before - self.entries.len()) as u64
     }
 
-    /// Trims exactly, and says how many entries went (XTRIM).
+    /// Trims exactly, and returns how many entries were removed (XTRIM).
     pub fn trim(&mut self, trim: Trim) -> u64
         ensures entries { state_of self.new
             ≡ record (state_of self.old) { entries = entries_after_trim trim self.old.entries } }

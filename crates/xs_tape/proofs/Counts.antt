@@ -1,4 +1,4 @@
--- How many bytes words take as they are sent.
+-- The number of bytes of words as they are sent.
 use Rattle.std.proofs.Common.{◌≡◌, ◌≢◌, ℕ, ◌+◌, ◌<◌, ◌≤◌, List, [], ◌∷◌, ◌++◌, length, take, drop, map, get_or, decimal, ap, ◌∙◌, arith, length-append}
 use Rattle.xs_resp.specs.Line.{crlf, line}
 use Rattle.xs_resp.specs.Grammar.{sent_word, sent_words, spelling}
@@ -6,7 +6,7 @@ use Rattle.xs_tape.specs.Escape.{escaped}
 use Rattle.xs_tape.specs.Records.{with_size}
 use Rattle.xs_tape.proofs.Walks.{sent_more, sent_split}
 
--- a word behind others takes no more than is left
+-- a word after others takes no more than is left
 pub sent_within : (words : List (List ℕ)) (i : ℕ) → i < length words
     → length (sent_words (map escaped (take i words))) + length (sent_word (escaped (get_or words i []))) ≤ length (sent_words (map escaped words))
 sent_within words i lt =
@@ -18,7 +18,7 @@ sent_within words i lt =
       length-append (sent_words (map escaped (take (i + 1) words))) (sent_words (map escaped (drop (i + 1) words))),
     )
 
--- what a request takes, and its first word
+-- the size of a request, and its first word
 pub size_left : (sent behind : List (List ℕ)) (word : List ℕ) (len count one two : ℕ) → sent ≡ word ∷ behind → (sent ≢ [] → len ≡ length (spelling sent)) → count ≡ length sent → one ≡ length (line 42 count)
     → two ≡ length (line 36 (length word)) → len ≡ one + two + length word + 2 + length (sent_words behind)
 size_left sent behind word len count one two e whole n f g =

@@ -1,4 +1,4 @@
--- What a crash leaves of bytes.
+-- What a crash leaves of some bytes.
 use Rattle.std.proofs.Common.{◌≡◌, ◌≢◌, inl, inr, ℕ, ◌≤◌, zero, suc, List, [], ◌∷◌, ◌++◌, length, take}
 use Rattle.std.proofs.Common.{refl, sym, ap, ◌∙◌, arith, eqb, length-append}
 use Rattle.std.proofs.lemmas.Bool.{cases_eq, eq-eqb, ne_eqb, cond-true, cond-false}
@@ -11,11 +11,11 @@ before_zero-zero byte rest e = cond-true (eqb byte 0) _ _ (eq-eqb byte 0 e)
 pub before_zero-more : (byte : ℕ) (rest : List ℕ) → byte ≢ 0 → before_zero (byte ∷ rest) ≡ byte ∷ before_zero rest
 before_zero-more byte rest e = cond-false (eqb byte 0) _ _ (ne_eqb byte 0 e)
 
--- what is left over of one list behind another
+-- one list is the front of another
 IsFront : List ℕ → List ℕ → Type 0
 IsFront first all = (rest : List ℕ) × (all ≡ first ++ rest)
 
--- what stands before the first zero was written
+-- the bytes before the first zero were written
 pub before_zero-written : (written file : List ℕ) → IsWrittenOrZero written file → (rest : List ℕ) × (written ≡ before_zero file ++ rest)
 before_zero-written written [] faded = (written, refl)
 before_zero-written [] (byte ∷ file) faded = ([], sym (ap (λ f. f ++ []) (before_zero-zero byte file faded.0)))
@@ -28,7 +28,7 @@ before_zero-written (one ∷ written) (byte ∷ file) faded =
           (more.0, ap (λ b. b ∷ written) (sym same) ∙ ap (λ ws. byte ∷ ws) more.1 ∙ sym (ap (λ f. f ++ more.0) (before_zero-more byte file some)))
     ]
 
--- and has all that was kept
+-- and contain all that was kept
 pub before_zero-kept : (kept : ℕ) (written file : List ℕ) → HasNoZero written → kept ≤ length written → take kept file ≡ take kept written → (more : List ℕ) × (before_zero file ≡ take kept written ++ more)
 before_zero-kept zero written file none le same = (before_zero file, refl)
 before_zero-kept (suc kept) [] file none le same = absurd (omega arith)

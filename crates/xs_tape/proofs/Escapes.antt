@@ -17,7 +17,7 @@ escape_pair zero le = refl
 escape_pair (suc zero) le = refl
 escape_pair (suc (suc byte)) le = absurd (omega arith)
 
--- one behind the other
+-- one after the other
 pub escaped-append : (xs ys : List ℕ) → escaped (xs ++ ys) ≡ escaped xs ++ escaped ys
 escaped-append [] ys = refl
 escaped-append (x ∷ xs) ys = ap (λ b. escape x ++ b) (escaped-append xs ys) ∙ sym (append_assoc (escape x) (escaped xs) (escaped ys))
@@ -37,7 +37,7 @@ ways byte = record {
   ];
 }
 
--- the first byte of what is escaped is one, whatever stands behind
+-- the first byte of an escaped text is determined, whatever follows
 pub escape-first : (byte other : ℕ) (rest more : List ℕ) → escape byte ++ rest ≡ escape other ++ more → (byte ≡ other) × (rest ≡ more)
 escape-first byte other rest more e =
     elim (ways byte).way [
@@ -90,7 +90,7 @@ escaped-all (a ∷ words) (b ∷ others) e =
     let tail : map escaped words ≡ map escaped others = cc in
     ap (λ x. x ∷ words) (escaped-one a b head) ∙ ap (λ ws. b ∷ ws) (escaped-all words others tail)
 
--- a word that takes no more bytes than it has stands for itself
+-- a word that is no longer when it is escaped is unchanged by it
 escaped-long : (word : List ℕ) → length word ≤ length (escaped word)
 escaped-long [] = omega arith
 escaped-long (byte ∷ word) =

@@ -1,4 +1,4 @@
--- The first bytes of some requests are the first of the requests, and a part of the next.
+-- The first bytes of some requests are the first of the requests, and a part of the next one.
 use Rattle.std.proofs.Common.{◌≡◌, inl, ℕ, ◌≤◌, zero, suc, List, [], ◌∷◌, ◌++◌, length, take, Some, None, Ok}
 use Rattle.std.proofs.Common.{refl, sym, ap, ◌∙◌, arith, append_assoc}
 use Rattle.std.proofs.lemmas.List.{append_cancel_left}
@@ -16,7 +16,7 @@ is-spelled words can = record { number = can.number; sizes = can.sizes; spelled 
 pub spelling-found : (words : List (List ℕ)) (rest : List ℕ) → CanBeSpelled words → request (spelling words ++ rest) ≡ Ok (Some (record { words = words; end = length (spelling words) }))
 spelling-found words rest can = spelled-read (spelling words) words rest (is-spelled words can)
 
--- no spelling goes on as another
+-- no spelling is a proper prefix of another
 pub same-front : (words others : List (List ℕ)) (rest more : List ℕ) → CanBeSpelled words → CanBeSpelled others → spelling words ++ rest ≡ spelling others ++ more → (words ≡ others) × (rest ≡ more)
 same-front words others rest more can may e =
     let one = spelling-found words rest can in
@@ -25,7 +25,7 @@ same-front words others rest more can may e =
     let same : words ≡ others = ap (λ (f : Found). f.words) found in
     (same, append_cancel_left (spelling words) rest more (e ∙ ap (λ w. spelling w ++ more) (sym same)))
 
--- no whole request stands in a part of one
+-- a part of a request has no complete request
 none-whole : (written : List (List (List ℕ))) (bytes : List ℕ) → AllByRecursion CanBeSpelled written → request bytes ≡ Ok None → (n : ℕ) → n ≤ length written → IsPrefix (spellings (take n written)) bytes → n ≤ 0
 none-whole written bytes can e zero le front = omega arith
 none-whole [] bytes can e (suc n) le front = absurd (omega arith)
@@ -35,7 +35,7 @@ none-whole (words ∷ written) bytes can e (suc n) le front =
     ap request (sym front.1 ∙ append_assoc (spelling words) others front.0) ∙ spelling-found words (others ++ front.0) can.0 in
     absurd (cc)
 
--- a request more is whole
+-- one more request is complete
 one-more : (first : List (List ℕ)) (written : List (List (List ℕ))) (bytes behind : List ℕ) (count : ℕ) → bytes ≡ spelling first ++ behind
     → ((m : ℕ) → m ≤ length written → IsPrefix (spellings (take m written)) behind → m ≤ count)
     → (n : ℕ) → n ≤ length (first ∷ written) → IsPrefix (spellings (take n (first ∷ written))) bytes → n ≤ suc count

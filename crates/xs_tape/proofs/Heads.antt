@@ -1,4 +1,4 @@
--- Heads of records: there is one at the most, and a beginning of a record that has as many bytes has its head.
+-- Heads of records: there is at most one, and a beginning of a record that has as many bytes as a head has its head.
 use Rattle.std.proofs.Common.{◌≡◌, ◌≢◌, inl, inr, ℕ, ◌+◌, ◌^◌, ◌<◌, ◌≤◌, List, [], ◌∷◌, ◌++◌, length, take, drop, suc, get_or, decimal, drop-cons, Option, Some, None, refl, sym, ap, ◌∙◌, subst, arith, append_assoc, length-append}
 use Rattle.std.specs.Prelude.{IfSome, MatchOption}
 use Rattle.std.proofs.lemmas.Fmt.{length-decimal-le}
@@ -13,7 +13,7 @@ use Rattle.xs_tape.specs.Records.{CanBeSpelled, with_size}
 use Rattle.xs_tape.specs.Heads.{HasHead, MayBeCut, IsCut}
 use Rattle.xs_tape.proofs.Sizes.{size-small}
 
--- ---- where the first CR stands
+-- ---- the place of the first CR
 
 cr-append : (xs ys : List ℕ) → HasNoCr xs → HasNoCr ys → HasNoCr (xs ++ ys)
 cr-append [] ys h k = k
@@ -39,7 +39,7 @@ no-cr-at-all [] (b ∷ front) rest h e = absurd (cc)
 no-cr-at-all (a ∷ text) [] rest h e = absurd (h.0 (cc))
 no-cr-at-all (a ∷ text) (b ∷ front) rest h e = no-cr-at-all text front rest h.1 (cc)
 
--- what stands before the first CR is the number, and LF stands behind it
+-- before the first CR is the number, and LF follows it
 pub number_before : (text number-text behind : List ℕ) (at : ℕ) → at < length text → HasNoCr (take at text) → get_or text at 0 ≡ 13 → HasNoCr number-text → text ≡ number-text ++ (crlf ++ behind)
     → (take at text ≡ number-text) × (drop at text ≡ crlf ++ behind)
 number_before text number-text behind at lt none cr no_cr e =
@@ -75,13 +75,13 @@ head_once bytes size other behind more h k =
     let two = line_once 36 h.digits k.digits _ _ h.digits_small k.digits_small one.1 in
     number_once size other behind more h.size_small k.size_small two.1
 
--- no line with a number stands where none was found
+-- if none was found, there is no line with a number
 pub no_line : (marker number : ℕ) (rest behind : List ℕ) → ((n : ℕ) (more : List ℕ) → n < 2 ^ 64 → rest ≢ decimal n ++ (crlf ++ more)) → number < 2 ^ 64 → marker ∷ rest ≢ line marker number ++ behind
 no_line marker number rest behind none small e =
     let whole = e ∙ line-text marker number behind in
     none number behind small (cc (whole))
 
--- no head stands where its second line, or its size, isn't found
+-- there is no head if its second line, or its size, isn't found
 pub no_second : (part words : List ℕ) (count size : ℕ) (behind : List ℕ) → count < 2 ^ 64 → part ≡ line 42 count ++ words → ((n : ℕ) (more : List ℕ) → n < 2 ^ 64 → words ≢ line 36 n ++ more) → HasHead part size behind → ⊥
 no_second part words count size behind small e none h =
     let one = line_once 42 count h.count words _ small h.count_small (sym e ∙ h.whole) in
@@ -106,7 +106,7 @@ found_head part words text count digits size behind small few fits e f g = recor
   whole = e ∙ ap (λ t. line 42 count ++ t) (f ∙ ap (λ t. line 36 digits ++ t) g);
 }
 
--- what was found of a third line is what was found of a head
+-- from a third line that was found to a head
 pub head_found : {B : Type 0} (bytes_of : B → List ℕ) (found : Option (ℕ × B)) (part words text : List ℕ) (count digits : ℕ) → count < 2 ^ 64 → digits < 2 ^ 64 → part ≡ line 42 count ++ words → words ≡ line 36 digits ++ text
     → MatchOption found ((n : ℕ) (more : List ℕ) → n < 2 ^ 64 → text ≢ decimal n ++ (crlf ++ more)) (λ r. text ≡ decimal r.0 ++ (crlf ++ bytes_of r.1)) → IfSome found (λ r. r.0 < 2 ^ 64)
     → MatchOption found ((size : ℕ) (behind : List ℕ) → HasHead part size behind → ⊥) (λ r. HasHead part r.0 (bytes_of r.1))
@@ -158,7 +158,7 @@ head-short words can =
       length-append (decimal size) crlf,
     )
 
--- what a part begins with, if the whole does and it is long enough
+-- the front of a part, if the whole has it and the part is long enough
 pub front-of : (part more front rest : List ℕ) → part ++ more ≡ front ++ rest → length front ≤ length part → (behind : List ℕ) × (part ≡ front ++ behind)
 front-of part more [] rest e le = (part, refl)
 front-of [] more (b ∷ front) rest e le = absurd (omega (arith, le))
@@ -194,7 +194,7 @@ some-length : (xs : List ℕ) → xs ≢ [] → 0 < length xs
 some-length [] h = absurd (h refl)
 some-length (x ∷ xs) h = omega arith
 
--- a head with what stands behind it
+-- a head with more bytes after it
 head-more : (part more : List ℕ) (size : ℕ) (behind : List ℕ) → HasHead part size behind → HasHead (part ++ more) size (behind ++ more)
 head-more part more size behind h = record {
   count = h.count;
@@ -207,7 +207,7 @@ head-more part more size behind h = record {
       ∙ head-with h.count h.digits size (behind ++ more);
 }
 
--- fewer bytes stand behind the head of a part than it says
+-- fewer bytes follow the head of a part than its size
 pub cut_is_short : (part : List ℕ) (size : ℕ) (behind : List ℕ) → IsCut part → HasHead part size behind → length behind < size
 cut_is_short part size behind cut h =
     let words = cut.words in
@@ -223,7 +223,7 @@ no_head_short part cut none =
       | inr le ↦ (let found = cut_has_head part cut le in absurd (none _ found.0 found.1))
     ]
 
--- nothing is a beginning of a record
+-- the empty list is a beginning of a record
 pub nothing_cut : IsCut []
 nothing_cut = record {
   words = [];
@@ -233,7 +233,7 @@ nothing_cut = record {
   some = λ e. absurd (cc (e));
 }
 
--- where a head stands, and as many bytes behind it as it says, nothing was cut
+-- if a head is followed by as many bytes as its size, nothing was cut
 pub not_cut : (part : List ℕ) (size : ℕ) (behind : List ℕ) → HasHead part size behind → size ≤ length behind → 32 ≤ length part → MayBeCut part → ⊥
 not_cut part size behind h all long (inl short) = absurd (omega (arith, short, long))
 not_cut part size behind h all long (inr found) =

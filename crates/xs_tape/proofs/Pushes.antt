@@ -1,4 +1,4 @@
--- The text of a record, as it is put.
+-- The text of a record, as it is written.
 use Rattle.std.proofs.Common.{◌≡◌, ℕ, ◌+◌, ◌^◌, ◌<◌, List, ◌∷◌, ◌++◌, length, map, decimal, ap, ◌∙◌, arith, append_assoc}
 use Rattle.std.specs.List.{concat}
 use Rattle.xs_resp.specs.Line.{line}
@@ -17,7 +17,7 @@ size_fits first sum rest can s =
     let small = size-small (map escaped (with_checksum first rest)) can in
     omega (arith, small, ap (λ t. length (sent_words (map escaped (first ∷ t ∷ rest)))) s.is)
 
--- the head, and the words behind it
+-- the head, and the words after it
 pub record_parts : (first sum : List ℕ) (rest : List (List ℕ)) (count size : ℕ) → count ≡ length rest + 3 → size ≡ length (sent_words (map escaped (first ∷ sum ∷ rest))) → IsSum first rest sum
     → (line 42 count ++ sent_word (decimal size)) ++ (sent_word (escaped first) ++ (sent_word (escaped sum) ++ sent_words (map escaped rest))) ≡ record_text first rest
 record_parts first sum rest count size n s is =

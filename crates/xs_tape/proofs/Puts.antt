@@ -1,4 +1,4 @@
--- What is put behind a text.
+-- Bytes that are put after a text.
 use Rattle.std.proofs.Common.{◌≡◌, ℕ, true, false, List, [], ◌++◌, length, Option, Some, None, Ok, Err, refl, sym, ap, ◌∙◌, subst, arith, append_assoc, length-append}
 use Rattle.std.specs.Prelude.{Bool, Result, is_err}
 use Rattle.std.proofs.lemmas.List.{append-nil}
@@ -57,7 +57,7 @@ appends-err (Err f) e bytes None (Some n) is a = absurd a
 appends-err (Err f) e bytes (Some o) None is a = absurd a
 appends-err (Err f) e bytes (Some o) (Some n) is a = a
 
--- what is said of a writing, by its parts
+-- the state of a writing, by its parts
 pub has-of : (broken : Bool) (pending : List ℕ) (writing : Writing) (closed : List (List ℕ)) (text : List ℕ) (sure : ℕ) → writing.broken ≡ broken → writing.pending ≡ pending
     → MayBeOnTape broken pending writing.holds closed text sure → Has writing closed text sure
 has-of broken pending writing closed text sure b p h =
@@ -116,13 +116,13 @@ puts_broken old new first more broken a = record {
       (has-of true new.pending new closed ((text ++ first) ++ more) sure broken refl (broken-on new.holds new.pending more closed (text ++ first) sure (has-in true new closed (text ++ first) sure broken (a.puts closed text sure h))));
 }
 
--- bytes are written behind what was written before, of which nothing is pending
+-- bytes are written after those that were written before, with none pending
 pub appended_long : (E : Type 0) (result : Result (Unit {0}) E) (bytes : List ℕ) (old between new : Writing) → Puts old between [] → Appends result bytes between.holds new.holds → between.pending ≡ [] → between.broken ≡ false
     → new.broken ≡ is_err result → new.pending ≡ [] → Puts old new bytes
 appended_long E result bytes old between new first a empty sound fine none =
     puts_join old between new [] bytes first (appended_any E result bytes bytes between new a (ap (λ p. p ++ bytes) (sym empty)) sound fine none)
 
--- two and three parts, of which the last one failed or didn't come
+-- two and three parts, the last of which failed or was not reached
 pub two_broken : (old between new : Writing) (a b c : List ℕ) → new.broken ≡ true → Puts old between a → Puts between new b → Puts old new (a ++ (b ++ c))
 two_broken old between new a b c broken first more =
     let all = puts_broken old new (a ++ b) c broken (puts_join old between new a b first more) in

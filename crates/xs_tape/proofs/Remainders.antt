@@ -1,4 +1,4 @@
--- Remainders are linear, so those of eight bits may be looked up.
+-- Remainders are linear, so those of eight bits can be looked up.
 use Rattle.std.proofs.Common.{◌≡◌, ℕ, ◌+◌, ◌*◌, ◌/◌, ◌%◌, ◌^◌, ◌<◌, ◌≤◌, zero, suc, List, [], ◌∷◌, ◌++◌, length, take, get_or, true, fold, refl, sym, ap, ◌∙◌, arith, append_assoc}
 use Rattle.std.specs.List.{concat}
 use Rattle.std.proofs.lemmas.List.{take_more, take_all, append-nil}
@@ -35,7 +35,7 @@ shifts-xor : (n a b : ℕ) → shifts n (bit_xor a b) ≡ bit_xor (shifts n a) (
 shifts-xor zero a b = refl
 shifts-xor (suc n) a b = ap (shifts n) (shifted-xor a b) ∙ shifts-xor n (shifted a) (shifted b)
 
--- where no power comes out, a shift halves
+-- if no power comes out, a shift halves
 shifted-even : (n half : ℕ) → n ≡ half * 2 → shifted n ≡ half
 shifted-even n half e =
     let low : n % 2 ≡ 0 = omega (arith, e) in

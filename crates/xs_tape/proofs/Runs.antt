@@ -1,4 +1,4 @@
--- Bytes that are written as they are, and the next one that isn't.
+-- Bytes that are written unchanged, and the next one that isn't.
 use Rattle.std.proofs.Common.{◌≡◌, ℕ, ◌+◌, ◌-◌, ◌<◌, ◌≤◌, true, false, List, [], ◌∷◌, ◌++◌, length, take, drop, get_or, sym, ap, ◌∙◌, subst, arith, append_assoc}
 use Rattle.std.proofs.lemmas.List.{take_more, take_all, take-take, take-append-drop, drop-append-le, drop-take, drop_all, length-take-le}
 use Rattle.xs_tape.specs.Escape.{escape, escaped}
@@ -7,7 +7,7 @@ use Rattle.xs_tape.proofs.Escapes.{escape-other, escaped-append}
 use Rattle.xs_tape.proofs.Puts.{puts_join, puts_broken}
 use Rattle.xs_tape.proofs.Walks.{escaped_more}
 
--- what stands between two places, where a byte more is passed
+-- the bytes between two places, with one more
 between-more : (word : List ℕ) (done at : ℕ) → done ≤ at → at < length word → drop done (take (at + 1) word) ≡ drop done (take at word) ++ get_or word at 0 ∷ []
 between-more word done at le lt =
     ap (drop done) (take_more word at 0 lt) ∙ drop-append-le done (take at word) (get_or word at 0 ∷ []) (omega (arith, le, length-take-le at word (omega (arith, lt))))
@@ -18,7 +18,7 @@ plain_none word done at le within =
     let none : drop done (take at word) ≡ [] = drop_all done (take at word) (omega (arith, le, length-take-le at word within)) in
     ap escaped none ∙ sym none
 
--- a byte above 1 is written as it is
+-- a byte above 1 is written unchanged
 pub plain_more : (word : List ℕ) (done at : ℕ) → done ≤ at → at < length word → 1 < get_or word at 0 → escaped (drop done (take at word)) ≡ drop done (take at word)
     → escaped (drop done (take (at + 1) word)) ≡ drop done (take (at + 1) word)
 plain_more word done at le lt above plain =
@@ -35,14 +35,14 @@ parts word done at le plain =
     ap escaped (sym (take-append-drop done (take at word))) ∙ escaped-append (take done (take at word)) (drop done (take at word)) ∙ ap (λ r. escaped (take done (take at word)) ++ r) plain
     ∙ ap (λ f. escaped f ++ drop done (take at word)) front
 
--- what was passed, and the byte behind it
+-- the bytes that were passed, and the byte after them
 pub run_more : (word : List ℕ) (done at : ℕ) → done ≤ at → at < length word → escaped (drop done (take at word)) ≡ drop done (take at word)
     → escaped (take done word) ++ (drop done (take at word) ++ escape (get_or word at 0)) ≡ escaped (take (at + 1) word)
 run_more word done at le lt plain =
     sym (append_assoc (escaped (take done word)) (drop done (take at word)) (escape (get_or word at 0)))
     ∙ ap (λ t. t ++ escape (get_or word at 0)) (sym (parts word done at le plain)) ∙ sym (escaped_more word at lt)
 
--- what was passed up to the end
+-- the bytes that were passed, up to the end
 pub run_last : (word : List ℕ) (done at : ℕ) → done ≤ at → length word ≤ at → escaped (drop done (take at word)) ≡ drop done (take at word) → escaped (take done word) ++ drop done word ≡ escaped word
 run_last word done at le all plain =
     let whole = take_all at word all in
@@ -57,14 +57,14 @@ slice_is word done at le =
 pub plain_slice : (word : List ℕ) (done at : ℕ) → done ≤ at → escaped (drop done (take at word)) ≡ drop done (take at word) → escaped (take (at - done) (drop done word)) ≡ take (at - done) (drop done word)
 plain_slice word done at le plain = let same = slice_is word done at le in ap escaped (sym same) ∙ plain ∙ same
 
--- what was passed, and the byte behind it, are put
+-- the bytes that were passed and the byte after them are put
 pub passed : (old here new : Writing) (word : List ℕ) (done at : ℕ) → done ≤ at → at < length word → escaped (drop done (take at word)) ≡ drop done (take at word) → Puts old here (escaped (take done word))
     → Puts here new (take (at - done) (drop done word) ++ escape (get_or word at 0)) → Puts old new (escaped (take (at + 1) word))
 passed old here new word done at le lt plain first more =
     let run = subst (λ r. Puts here new (r ++ escape (get_or word at 0))) (sym (slice_is word done at le)) more in
     subst (λ t. Puts old new t) (run_more word done at le lt plain) (puts_join old here new (escaped (take done word)) (drop done (take at word) ++ escape (get_or word at 0)) first run)
 
--- what was passed up to the end is put
+-- the bytes that were passed, up to the end, are put
 pub passed_all : (old here new : Writing) (word : List ℕ) (done at : ℕ) → done ≤ at → length word ≤ at → at ≤ length word → escaped (drop done (take at word)) ≡ drop done (take at word) → Puts old here (escaped (take done word))
     → Puts here new (take (length word - done) (drop done word)) → Puts old new (escaped word)
 passed_all old here new word done at le all within plain first more =
@@ -73,7 +73,7 @@ passed_all old here new word done at le all within plain first more =
     let whole = take_all at word all in
     subst (λ t. Puts old new t) (run_last word done at le all plain) (puts_join old here new (escaped (take done word)) (drop done word) first (subst (λ r. Puts here new r) (sym (slice_is word done at le) ∙ ap (drop done) whole) run))
 
--- if a call has failed, the whole word may be put
+-- if a call has failed, the whole word may have been put
 pub passed_broken : (old new : Writing) (word : List ℕ) (n : ℕ) → new.broken ≡ true → Puts old new (escaped (take n word)) → Puts old new (escaped word)
 passed_broken old new word n broken first =
     let whole = sym (escaped-append (take n word) (drop n word)) ∙ ap escaped (take-append-drop n word) in
@@ -85,7 +85,7 @@ plain_end word done at le all within plain =
     let same : at ≡ length word = omega (arith, all, within) in
     subst (λ n. escaped (take (n - done) (drop done word)) ≡ take (n - done) (drop done word)) same (plain_slice word done at le plain)
 
--- how far a word is put
+-- the part of a word that is put
 abbrev pub IsPassed : Writing → Writing → List ℕ → ℕ → ℕ → Type 0
 IsPassed old new word done at =
     Puts old new (escaped (take done word)) × (new.broken ≡ false) × (done ≤ at) × (escaped (drop done (take at word)) ≡ drop done (take at word))
@@ -106,10 +106,10 @@ passed_plain old here self word done at next so_far lt above self_is next_is =
 pub plain_next : (word : List ℕ) (at : ℕ) → at < length word → 1 < get_or word at 0 → escaped (take at word) ≡ take at word → escaped (take (at + 1) word) ≡ take (at + 1) word
 plain_next word at lt above plain = plain_more word 0 at (omega arith) lt above plain
 
--- a text all of whose bytes stand for themselves
+-- a text that escaping leaves unchanged
 pub plain_all : (text : List ℕ) (n : ℕ) → length text ≤ n → escaped (take n text) ≡ take n text → escaped text ≡ text
 plain_all text n all plain = ap escaped (sym (take_all n text all)) ∙ plain ∙ take_all n text all
 
--- what stands behind the first bytes, which stand for themselves
+-- the bytes after the first ones, which escaping leaves unchanged
 pub plain_front : (text : List ℕ) (n : ℕ) → escaped (take n text) ≡ take n text → text ≡ escaped (take n text) ++ drop n text
 plain_front text n plain = sym (take-append-drop n text) ∙ ap (λ t. t ++ drop n text) (sym plain)

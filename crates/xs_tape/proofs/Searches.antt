@@ -1,4 +1,4 @@
--- Where the first byte stands that is zero, or is escaped.
+-- The place of the first byte that is zero, or is escaped.
 use Rattle.std.specs.Prelude.{MatchOption, unwrap_or}
 use Rattle.std.proofs.Common.{◌≡◌, ◌≢◌, ℕ, zero, suc, ◌+◌, ◌<◌, ◌≤◌, true, ◌||◌, List, length, take, get_or, eqb, Option, Some, None, subst, arith, refl}
 use Rattle.std.proofs.lemmas.Bool.{eq-eqb, eqb-true}

@@ -1,4 +1,4 @@
--- How many bytes the words of a record take.
+-- The number of bytes of the words of a record.
 use Rattle.std.proofs.Common.{◌≡◌, inl, inr, ℕ, ◌+◌, ◌*◌, ◌^◌, ◌<◌, ◌≤◌, List, [], ◌∷◌, ◌++◌, length, map, decimal, ap, arith, length-append}
 use Rattle.std.proofs.lemmas.Fmt.{length-decimal-le}
 use Rattle.std.proofs.lemmas.List.{length-map}
@@ -28,7 +28,7 @@ pub escaped-short : (word : List ℕ) → length (escaped word) ≤ 2 * length w
 escaped-short [] = omega arith
 escaped-short (byte ∷ word) = omega (arith, length-append (escape byte) (escaped word), escape-short byte, escaped-short word)
 
--- words that RESP can spell take a number of bytes that has no more than 15 digits
+-- the size of words that RESP can spell has at most 15 digits
 words-long : (words : List (List ℕ)) → AreSizes words → length (sent_words words) ≤ 536870946 * length words
 words-long [] sizes = omega arith
 words-long (word ∷ words) sizes =
@@ -61,7 +61,7 @@ can_be_spelled first rest number sizes short =
       sizes = (omega (arith, length-decimal-le 15 (length (sent_words words)) (omega arith) (omega (arith, small)) (omega (arith, small))), all);
     }
 
--- a record has its size and its checksum besides
+-- a record has its size and its checksum in addition
 pub count_is : (first : List ℕ) (rest : List (List ℕ)) → length rest + 3 ≡ length (record_words first rest)
 count_is first rest = omega (arith, length-map rest escaped)
 

@@ -45,7 +45,7 @@ escape_single byte lt =
       | inr b ↦ elim b [ inl a ↦ absurd (omega (arith, a.0)) | inr a ↦ ap length a.2 ]
     ]
 
--- what stands behind a part of an escaped word is an escaped word
+-- what follows a part of an escaped word is an escaped word
 pub escaped-rest : (word done rest : List ℕ) → escaped word ≡ escaped done ++ rest → (more : List ℕ) × (rest ≡ escaped more)
 escaped-rest word [] rest e = (word, sym e)
 escaped-rest [] (d ∷ done) rest e = absurd (omega (arith, ap length e, length-append (escape d ++ escaped done) rest, length-append (escape d) (escaped done), escape_long d))
@@ -53,7 +53,7 @@ escaped-rest (w ∷ word) (d ∷ done) rest e =
     let first = escape-first w d (escaped word) (escaped done ++ rest) (e ∙ append_assoc (escape d) (escaped done) rest) in
     escaped-rest word done rest first.1
 
--- a word that goes on behind what was read has a first byte
+-- a word that continues what was read has a first byte
 pub no_word : (text done rest : List ℕ) → text ≡ escaped done ++ rest → rest ≢ [] → ((byte : ℕ) (more : List ℕ) → rest ≢ escape byte ++ more) → (word : List ℕ) → text ≢ escaped word
 no_word text done rest e some none word is =
     let behind = escaped-rest word done rest (sym is ∙ e) in
@@ -94,7 +94,7 @@ pub before_zero_none : (bytes rest : List ℕ) → HasNoZero bytes → before_ze
 before_zero_none [] rest h = refl
 before_zero_none (b ∷ bytes) rest h = cond-false (eqb b 0) _ _ (ne_eqb b 0 h.0) ∙ ap (λ f. b ∷ f) (before_zero_none bytes rest h.1)
 
--- where a zero stands in the first bytes, nothing behind them counts
+-- if there is a zero in the first bytes, those after them don't matter
 pub before_zero_met : (bytes rest : List ℕ) (i : ℕ) → i < length bytes → HasNoZero (take i bytes) → before_zero bytes ≡ take i bytes → before_zero (bytes ++ rest) ≡ take i bytes
 before_zero_met [] rest i lt h e = absurd (omega arith)
 before_zero_met (b ∷ bytes) rest zero lt h e =
@@ -118,7 +118,7 @@ whole_rest text done next rest behind byte e f n =
     ∙ ap (λ b. b ++ behind) (sym (escaped-append done (byte ∷ [])))
     ∙ ap (λ w. escaped w ++ behind) (sym n)
 
--- what a read gives of the bytes before the first zero
+-- a read returns the bytes before the first zero
 pub record Met (into : List ℕ) (count given : ℕ) : Type 0 where
   pub within : given < length (take count into)
   pub none : HasNoZero (take given (take count into))

@@ -1,4 +1,4 @@
--- What has no zero byte.
+-- Texts without a zero byte.
 use Rattle.std.proofs.Common.{◌≡◌, inl, inr, ℕ, ◌+◌, ◌%◌, ◌^◌, ◌<◌, List, [], ◌∷◌, ◌++◌, length, map, decimal, sym, ap, ◌∙◌, subst, arith}
 use Rattle.std.proofs.lemmas.Fmt.{decimal_by_steps}
 use Rattle.xs_resp.specs.Line.{crlf, line}
@@ -74,6 +74,6 @@ decimal_plain n small =
     digit : (n : ℕ) → escape (48 + n) ≡ (48 + n) ∷ []
     digit n = escape-other (48 + n) (λ e. absurd (omega (arith, e))) (λ e. absurd (omega (arith, e)))
 
--- what is not escaped has no zero
+-- a text that escaping leaves unchanged has no zero
 pub plain_no_zero : (bytes : List ℕ) → escaped bytes ≡ bytes → HasNoZero bytes
 plain_no_zero bytes e = subst HasNoZero e (escaped-no-zero bytes)

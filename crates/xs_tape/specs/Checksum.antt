@@ -11,7 +11,7 @@ polynomial = 2197175160
 abbrev pub shifted : ℕ → ℕ
 shifted remainder = bit_xor (remainder / 2) (polynomial * (remainder % 2))
 
--- times x, so many times
+-- times x, this many times
 abbrev pub shifts : ℕ → ℕ → ℕ
 shifts zero remainder = remainder
 shifts (suc n) remainder = shifts n (shifted remainder)
@@ -20,7 +20,7 @@ shifts (suc n) remainder = shifts n (shifted remainder)
 unfoldable pub with_byte : ℕ → ℕ → ℕ
 with_byte remainder byte = shifts 8 (bit_xor remainder byte)
 
--- it begins with all bits set, and its 32 bits are turned at the end
+-- it begins with all bits set, and its 32 bits are inverted at the end
 unfoldable pub crc32c : List ℕ → ℕ
 crc32c bytes = bit_xor (fold with_byte 4294967295 bytes) 4294967295 % 2 ^ 32
 

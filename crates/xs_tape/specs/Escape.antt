@@ -1,4 +1,4 @@
--- Words as they stand in a log: escaped, so that no byte is zero.
+-- Words as a log has them: escaped, so that no byte is zero.
 use Rattle.std.specs.Prelude.{ℕ, ◌==◌, List, [], ◌∷◌, ◌++◌, if◌then◌else◌}
 
 -- 0 is written as 1 1, and 1 as 1 2

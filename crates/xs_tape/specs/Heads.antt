@@ -4,8 +4,8 @@ use Rattle.xs_resp.specs.Line.{crlf, line}
 use Rattle.xs_resp.specs.Grammar.{spelling}
 use Rattle.xs_tape.specs.Records.{CanBeSpelled, with_size}
 
--- these bytes begin with the head of a record: the number of its words, and the first of them, which stands in so many
--- digits and is the size of those behind it
+-- these bytes begin with the head of a record: the line with the number of its words, the line with the number of
+-- digits of its first word, and the first word, which is the size of the words after it
 pub record HasHead (bytes : List ℕ) (size : ℕ) (behind : List ℕ) : Type 0 where
   pub count : ℕ
   pub digits : ℕ
@@ -14,13 +14,13 @@ pub record HasHead (bytes : List ℕ) (size : ℕ) (behind : List ℕ) : Type 0 
   pub size_small : size < 2 ^ 64
   pub whole : bytes ≡ line 42 count ++ (line 36 digits ++ (decimal size ++ (crlf ++ behind)))
 
--- a record may have been cut behind these bytes: they are fewer than the longest head has, or begin with a head that
--- says more bytes than stand behind it
+-- a record may have been cut after these bytes: they are fewer than the longest head has, or begin with a head whose
+-- size is more than the bytes after it
 abbrev pub MayBeCut : List ℕ → Type 0
 MayBeCut part =
     (length part < 32) ⊎ ((size : ℕ) × (behind : List ℕ) × HasHead part size behind × (length behind < size))
 
--- these bytes are a beginning of a record, and not all of it
+-- these bytes are a beginning of a record, but not all of it
 pub record IsCut (part : List ℕ) : Type 0 where
   pub words : List (List ℕ)
   pub more : List ℕ

@@ -1,4 +1,4 @@
--- What a tape in memory holds.
+-- The content of a tape in memory.
 use Rattle.std.specs.Prelude.{ℕ, List, map}
 use Rattle.std.specs.Global.{Vec}
 use Rattle.xs_tape.specs.Tape.{TapeBytes}

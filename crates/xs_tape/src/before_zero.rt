@@ -1,4 +1,4 @@
-//! A reader of what stands before the first zero.
+//! A reader of the bytes before the first zero.
 ghost use Rattle.std.specs.Prelude.{◌≡◌, ◌++◌, ◌∷◌, ◌<◌, ◌≤◌, false, length, take, drop, MatchOption};
 ghost use Rattle.std.specs.Option.{option_map};
 ghost use Rattle.xs_tape.specs.Crash.{HasNoZero, before_zero};
@@ -20,7 +20,7 @@ pub struct BeforeZero<R: Source + Drop> {
     passed: Trace<u8>,
 }
 
-/// Where the first zero stands.
+/// The place of the first zero.
 fn zero_at(bytes: &[u8]) -> Option<usize>
     ensures { MatchOption result (HasNoZero bytes.now)
         (λ at. (at < length bytes.now) × HasNoZero (take at bytes.now) × (before_zero bytes.now ≡ take at bytes.now)) }

@@ -81,7 +81,7 @@ fn with_bytes(remainder: u32, bytes: &[u8]) -> u32
     so_far
 }
 
-/// The checksum of words, one behind the other.
+/// The checksum of words, one after the other.
 pub fn checksum_of(first: &[u8], rest: &[Bytes]) -> u32
     ensures { result ≡ crc32c (concat (first.now ∷ rest.now)) }
 {

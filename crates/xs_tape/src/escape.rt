@@ -1,4 +1,4 @@
-//! Words as they stand in a log.
+//! Words as a log has them.
 ghost use Rattle.std.specs.Prelude.{◌≡◌, ◌≢◌, ◌++◌, ◌+◌, ◌*◌, ◌<◌, ◌≤◌, ℕ, List, length, take, IfOk, MatchOption};
 ghost use Rattle.xs_tape.specs.Escape.{escape, escaped};
 
@@ -6,7 +6,7 @@ use memchr::memchr2;
 use std::alloc::{AllocError, Global};
 use xs_bytes::Bytes;
 
-/// How many bytes a byte takes in a log.
+/// The number of bytes that a byte takes in a log.
 #[tactic(auto, using(crate::proofs::Walks::escape_two, crate::proofs::Walks::escape_single))]
 fn escape_len(byte: u8) -> usize
     ensures value { result ≡ length (escape byte) }
@@ -15,7 +15,7 @@ fn escape_len(byte: u8) -> usize
     if byte <= 1 { 2 } else { 1 }
 }
 
-/// How many bytes stand before the first that is 0 or 1.
+/// The number of bytes before the first that is 0 or 1.
 pub(crate) fn plain_len(text: &[u8]) -> usize
     ensures within { result ≤ length text.now }
     ensures plain { escaped (take result text.now) ≡ take result text.now }
@@ -23,7 +23,7 @@ pub(crate) fn plain_len(text: &[u8]) -> usize
     memchr2(0, 1, text).unwrap_or(text.len())
 }
 
-/// How many bytes a word takes in a log, each of its bytes counted.
+/// The number of bytes that a word takes in a log, counted byte by byte.
 fn counted_len(word: &[u8]) -> usize
     ensures { result ≡ length (escaped word.now) }
 {
@@ -34,7 +34,7 @@ fn counted_len(word: &[u8]) -> usize
     size
 }
 
-/// How many bytes a word takes in a log.
+/// The number of bytes that a word takes in a log.
 pub(crate) fn escaped_len(word: &[u8]) -> usize
     ensures { result ≡ length (escaped word.now) }
 {
@@ -45,7 +45,7 @@ pub(crate) fn escaped_len(word: &[u8]) -> usize
     counted_len(word)
 }
 
-/// The byte that stands at the front of a word of a log, and what stands behind it; None where none does.
+/// The byte at the front of an escaped word, and the bytes after it. None if there is no such byte.
 fn first_byte(rest: &[u8]) -> Option<(u8, &[u8])>
     ensures some { MatchOption result
         ((byte : ℕ) (more : List ℕ) → rest.now ≢ escape byte ++ more)
@@ -61,7 +61,7 @@ fn first_byte(rest: &[u8]) -> Option<(u8, &[u8])>
     }
 }
 
-/// The word that stands so in a log, or None where none does.
+/// The word whose escaped text this is. None if there is no such word.
 pub fn unescaped(alloc: Global, text: &[u8]) -> Result<Option<Bytes>, AllocError>
     ensures { IfOk result (λ r. MatchOption r
         ((word : List ℕ) → text.now ≢ escaped word) (λ word. text.now ≡ escaped word)) }
@@ -73,7 +73,7 @@ pub fn unescaped(alloc: Global, text: &[u8]) -> Result<Option<Bytes>, AllocError
     unescaped_behind(alloc, text, plain)
 }
 
-/// The same of a text whose first bytes, so many, stand for themselves.
+/// Like `unescaped`, for a text whose first `plain` bytes are unchanged by escaping.
 fn unescaped_behind(alloc: Global, text: &[u8], plain: usize) -> Result<Option<Bytes>, AllocError>
     requires within { plain ≤ length text.now }
     requires plain { escaped (take plain text.now) ≡ take plain text.now }

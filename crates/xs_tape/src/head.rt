@@ -7,11 +7,11 @@ ghost use Rattle.xs_tape.specs.Heads.{HasHead, MayBeCut, IsCut};
 
 use xs_bytes::natural;
 
-/// The most bytes of a head: 10 with the number of words, 5 with how many digits the size has, and 15 of these with
+/// The most bytes of a head: 10 for the number of words, 5 for the number of digits of the size, and 15 digits with
 /// their line end.
 const LONGEST_HEAD: usize = 32;
 
-/// Where the first CR stands.
+/// The place of the first CR.
 #[tactic(auto, using(crate::proofs::Heads::no_cr_more))]
 fn cr_at(text: &[u8]) -> Option<usize>
     ensures { MatchOption result (HasNoCr text.now)
@@ -25,7 +25,7 @@ fn cr_at(text: &[u8]) -> Option<usize>
     None
 }
 
-/// What stands behind the line end at the front.
+/// The bytes after the line end at the front.
 fn behind_line_end(rest: &[u8]) -> Option<&[u8]>
     ensures { MatchOption result ((behind : List ℕ) → rest.now ≢ crlf ++ behind)
         (λ behind. rest.now ≡ crlf ++ behind.now) }
@@ -36,7 +36,7 @@ fn behind_line_end(rest: &[u8]) -> Option<&[u8]>
     }
 }
 
-/// The number at the front, and what stands behind its line end.
+/// The number at the front, and the bytes after its line end.
 fn number_line(text: &[u8]) -> Option<(u64, &[u8])>
     ensures line { MatchOption result
         ((number : ℕ) (behind : List ℕ) → number < 2 ^ 64 → text.now ≢ decimal number ++ (crlf ++ behind))
@@ -56,7 +56,7 @@ fn number_line(text: &[u8]) -> Option<(u64, &[u8])>
     Some((number, behind))
 }
 
-/// The number of the line with this marker at the front, and what stands behind the line.
+/// The number of the line with this marker at the front, and the bytes after the line.
 fn marked_line(marker: u8, bytes: &[u8]) -> Option<(u64, &[u8])>
     ensures line { MatchOption result
         ((number : ℕ) (behind : List ℕ) → number < 2 ^ 64 → bytes.now ≢ line marker number ++ behind)
@@ -72,7 +72,7 @@ fn marked_line(marker: u8, bytes: &[u8]) -> Option<(u64, &[u8])>
     number_line(text)
 }
 
-/// The size that the head of a record says, and the bytes behind the head. None where no whole head stands.
+/// The size in the head of a record, and the bytes after the head. None if there is no complete head.
 fn size_in_head(part: &[u8]) -> Option<(u64, &[u8])>
     ensures { MatchOption result ((size : ℕ) (behind : List ℕ) → HasHead part.now size behind → ⊥)
         (λ found. HasHead part.now found.0 found.1.now) }
@@ -86,8 +86,8 @@ fn size_in_head(part: &[u8]) -> Option<(u64, &[u8])>
     number_line(text)
 }
 
-/// Whether a record may have been cut behind these bytes. It says no where a whole record stands whose lengths have
-/// changed, so that it reads as an unfinished one.
+/// Whether a record may have been cut after these bytes. It is false if a complete record is there whose lengths have
+/// changed, so that it looks unfinished.
 pub fn may_be_cut(part: &[u8]) -> bool
     ensures yes { result ≡ true → MayBeCut part.now }
     ensures cut { IsCut part.now → result ≡ true }

@@ -1,4 +1,4 @@
-//! Bytes on their way to a tape. Once a writer is made it takes no memory.
+//! Bytes that are being written to a tape. Only making a writer takes memory.
 ghost use Rattle.std.specs.Prelude.{◌≡◌, ◌≢◌, ◌+◌, ◌<◌, ◌≤◌, ◌++◌, ◌∷◌, [], ℕ, List, false, length};
 ghost use Rattle.std.specs.Prelude.{IfOk, IfSome, OnOk, is_err};
 ghost use Rattle.xs_tape.specs.Crash.{HasNoZero};
@@ -9,10 +9,10 @@ use crate::tape::{Tape, TapeFailed};
 use std::alloc::{AllocError, Global};
 use std::marker::Model;
 
-/// How many bytes are gathered before they are written.
+/// The most bytes that are gathered before they are written.
 const GATHERED: usize = 65_536;
 
-/// A tape, and what is to be written behind what it has.
+/// A tape, and the bytes that are still to be appended to it.
 #[derive(Drop)]
 pub struct LogWriter<T: Tape + Drop> {
     tape: T,
@@ -35,7 +35,7 @@ impl<T: Tape + Drop> Model for LogWriter<T> {
 }
 
 impl<T: Tape + Drop> LogWriter<T> {
-    /// A tape, and nothing to be written. This is the only call that takes memory.
+    /// A writer for a tape, with nothing pending. This is the only call that takes memory.
     pub fn new(alloc: Global, tape: T) -> Result<Self, AllocError>
         ensures { IfOk result (λ writer. writer
             ≡ record { broken = T.broken tape; holds = T.holds tape; pending = [] }) }
@@ -55,7 +55,7 @@ impl<T: Tape + Drop> LogWriter<T> {
         &self.tape
     }
 
-    /// The tape, without what is pending.
+    /// Returns the tape, and drops what is pending.
     pub fn into_tape(self) -> T
         ensures holds { T.holds result ≡ self.holds }
         ensures broken { T.broken result ≡ self.broken }
@@ -63,7 +63,7 @@ impl<T: Tape + Drop> LogWriter<T> {
         self.tape
     }
 
-    /// How many bytes the last file of the tape has.
+    /// The number of bytes of the last file of the tape.
     pub fn size(&self) -> u64
         ensures { IfSome self.now.holds (λ tape. result ≡ length tape.written) }
     {
@@ -83,7 +83,7 @@ impl<T: Tape + Drop> LogWriter<T> {
         Ok(())
     }
 
-    /// Makes room for so many bytes behind what is pending.
+    /// Makes room for `size` bytes after those that are pending.
     #[inline(always)]
     pub(crate) fn make_room(&mut self, size: usize) -> Result<(), TapeFailed>
         requires sound { self.old.broken ≡ false }
@@ -98,7 +98,7 @@ impl<T: Tape + Drop> LogWriter<T> {
         self.flush()
     }
 
-    /// Gathers bytes for which there is room.
+    /// Gathers bytes. There has to be room.
     pub(crate) fn gather(&mut self, bytes: &[u8])
         requires room { length self.old.pending + length bytes.now ≤ 65536 }
         requires bytes { HasNoZero bytes.now }
@@ -110,7 +110,7 @@ impl<T: Tape + Drop> LogWriter<T> {
         let _ = self.pending.extend_from_slice(bytes);
     }
 
-    /// Gathers a byte for which there is room.
+    /// Gathers a byte. There has to be room.
     #[inline(always)]
     pub(crate) fn gather_byte(&mut self, byte: u8)
         requires room { length self.old.pending < 65536 }
@@ -135,7 +135,7 @@ impl<T: Tape + Drop> LogWriter<T> {
         self.tape.append(bytes)
     }
 
-    /// Puts bytes behind the others.
+    /// Puts bytes after the others.
     pub(crate) fn put(&mut self, bytes: &[u8]) -> Result<(), TapeFailed>
         requires sound { self.old.broken ≡ false }
         requires bytes { HasNoZero bytes.now }
@@ -150,7 +150,7 @@ impl<T: Tape + Drop> LogWriter<T> {
         Ok(())
     }
 
-    /// Writes what is pending, if anything is.
+    /// Writes what is pending, if there is anything.
     fn write_all(&mut self) -> Result<(), TapeFailed>
         requires sound { self.old.broken ≡ false }
         ensures puts { Puts self.old self.new [] }
@@ -163,7 +163,7 @@ impl<T: Tape + Drop> LogWriter<T> {
         self.flush()
     }
 
-    /// Has the tape keep what was written, unless it does.
+    /// Has the tape keep what was written, unless it is kept already.
     fn keep_all(&mut self) -> Result<(), TapeFailed>
         requires sound { self.old.broken ≡ false }
         requires pending { self.old.pending ≡ [] }
@@ -181,7 +181,7 @@ impl<T: Tape + Drop> LogWriter<T> {
         Ok(())
     }
 
-    /// Writes what is pending, and has the tape keep all. If there is nothing to be written or kept, it does nothing.
+    /// Writes what is pending, and has the tape keep all. If there is nothing to write or to keep, it does nothing.
     pub fn commit(&mut self) -> Result<(), TapeFailed>
         requires sound { self.old.broken ≡ false }
         ensures keeps { (closed : List (List ℕ)) (text : List ℕ) (sure : ℕ) → Has self.old closed text sure →
@@ -194,7 +194,7 @@ impl<T: Tape + Drop> LogWriter<T> {
         self.keep_all()
     }
 
-    /// Begins the next file, behind what is kept.
+    /// Begins the next file, after those that are kept.
     fn begin_file(&mut self) -> Result<(), TapeFailed>
         requires sound { self.old.broken ≡ false }
         requires pending { self.old.pending ≡ [] }

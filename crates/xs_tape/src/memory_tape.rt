@@ -5,7 +5,7 @@ ghost use Rattle.xs_tape.specs.MemoryTape.{bytes_of, tape_bytes};
 use crate::tape::{Tape, TapeFailed};
 use std::alloc::Global;
 
-/// A tape in memory that answers so many calls, and fails at the next. The call that fails writes nothing.
+/// A tape in memory that serves a number of calls, and fails at the next one. The call that fails writes nothing.
 #[derive(Drop)]
 pub struct MemoryTape {
     alloc: Global,
@@ -17,7 +17,7 @@ pub struct MemoryTape {
 }
 
 impl MemoryTape {
-    /// An empty tape that answers so many calls.
+    /// An empty tape that serves `calls_left` calls.
     pub fn new(alloc: Global, calls_left: u64) -> Self
         ensures holds { ⟦<MemoryTape as Tape>⟧.holds result ≡ Some (record { closed = []; written = []; kept = 0 }) }
         ensures broken { ⟦<MemoryTape as Tape>⟧.broken result ≡ false }
@@ -46,14 +46,14 @@ impl MemoryTape {
         &self.bytes
     }
 
-    /// How many of the first of them are kept.
+    /// The number of the first of them that are kept.
     pub fn kept(&self) -> usize
         ensures { result ≡ (tape_bytes self.now).kept }
     {
         self.kept
     }
 
-    /// Takes a call, or breaks.
+    /// Counts a call, or fails.
     fn takes_call(&mut self) -> bool
         ensures closed { self.new.closed ≡ self.old.closed }
         ensures bytes { self.new.bytes ≡ self.old.bytes }

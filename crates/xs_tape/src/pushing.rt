@@ -1,4 +1,4 @@
-//! Records as they are put behind a log.
+//! Records that are appended to a log.
 ghost use Rattle.std.specs.Prelude.{◌≡◌, ◌≢◌, ◌+◌, ◌≤◌, ◌++◌, false, decimal, length, map, is_err};
 ghost use Rattle.xs_resp.specs.Line.{crlf, line};
 ghost use Rattle.xs_resp.specs.Grammar.{sent_word, sent_words};
@@ -14,11 +14,11 @@ use crate::tape::{Tape, TapeFailed};
 use itoa::Buffer;
 use xs_bytes::Bytes;
 
-/// No line with a number has more bytes.
+/// The most bytes of a line with a number.
 const LINE: usize = 32;
 
 impl<T: Tape + Drop> LogWriter<T> {
-    /// Puts bytes none of which is escaped, and one that is.
+    /// Puts bytes that aren't escaped, and one that is.
     #[tactic(auto, using(crate::proofs::Escapes::escape_pair))]
     fn put_run(&mut self, run: &[u8], byte: u8) -> Result<(), TapeFailed>
         requires sound { self.old.broken ≡ false }
@@ -31,7 +31,7 @@ impl<T: Tape + Drop> LogWriter<T> {
         self.put(&[1, byte + 1])
     }
 
-    /// Puts a word as it stands in a log, byte by byte.
+    /// Puts a word as a log has it, byte by byte.
     fn put_bytes(&mut self, word: &[u8]) -> Result<(), TapeFailed>
         requires sound { self.old.broken ≡ false }
         ensures puts { Puts self.old self.new (escaped word.now) }
@@ -48,7 +48,7 @@ impl<T: Tape + Drop> LogWriter<T> {
         self.put(&word[done..])
     }
 
-    /// Gathers the end of a line, for which there is room.
+    /// Gathers the end of a line. There has to be room.
     #[inline(always)]
     fn gather_end(&mut self)
         requires room { length self.old.pending + 2 ≤ 65536 }
@@ -60,7 +60,7 @@ impl<T: Tape + Drop> LogWriter<T> {
         self.gather_byte(b'\n');
     }
 
-    /// Gathers a line with a number, for which there is room.
+    /// Gathers a line with a number. There has to be room.
     #[inline(always)]
     fn gather_line(&mut self, marker: u8, number: usize)
         requires room { length self.old.pending + 32 ≤ 65536 }
@@ -98,7 +98,7 @@ impl<T: Tape + Drop> LogWriter<T> {
         Ok(())
     }
 
-    /// Puts a word as it stands in a log, where it takes so many bytes.
+    /// Puts a word as a log has it. It takes `size` bytes there.
     fn put_escaped(&mut self, word: &[u8], size: usize) -> Result<(), TapeFailed>
         requires sound { self.old.broken ≡ false }
         requires size { size ≡ length (escaped word.now) }
@@ -135,7 +135,7 @@ impl<T: Tape + Drop> LogWriter<T> {
         Ok(())
     }
 
-    /// Puts the head of a record: how many words it has, and the size of those behind the first.
+    /// Puts the head of a record: the number of its words, and the size of those after the first.
     fn put_head(&mut self, count: usize, size: usize) -> Result<(), TapeFailed>
         requires sound { self.old.broken ≡ false }
         ensures puts { Puts self.old self.new (line 42 count ++ sent_word (decimal size)) }
@@ -146,7 +146,7 @@ impl<T: Tape + Drop> LogWriter<T> {
         self.put_word(buffer.format(size as u64).as_bytes())
     }
 
-    /// Puts a record behind the others: its size, a first word, its checksum, and the words behind the first.
+    /// Appends a record: its size, a first word, its checksum, and the words after the first.
     pub fn push(&mut self, first: &[u8], rest: &[Bytes]) -> Result<(), TapeFailed>
         requires sound { self.old.broken ≡ false }
         requires spelled { CanBeSpelled (record_words first.now rest.now) }

@@ -1,4 +1,4 @@
-//! Which words may be a record.
+//! Which words can be a record.
 ghost use Rattle.std.specs.Prelude.{◌≡◌, ◌≤◌, ℕ, List, true, length, map};
 ghost use Rattle.xs_resp.specs.declared.header.Part.TheVariants.{Size};
 ghost use Rattle.xs_resp.specs.HeaderPart.{limit};
@@ -27,8 +27,8 @@ fn are_short(words: &[Bytes]) -> bool
     true
 }
 
-/// Whether a log may have a record with these words behind its first, if that is short. It may if they are fewer than
-/// 1048574, and each takes no more than 512 MiB in a log, where the bytes 0 and 1 take two.
+/// Whether a log may have a record with these words after its first, if the first is short. They have to be fewer than
+/// 1048574, and each may take at most 512 MiB in a log, where the bytes 0 and 1 take two.
 pub fn can_be_record(rest: &[Bytes]) -> bool
     ensures { result ≡ true → (first : List ℕ) → length (escaped first) ≤ limit Size →
         CanBeSpelled (record_words first rest.now) }

@@ -1,4 +1,4 @@
-//! How many bytes words take as they are sent.
+//! The number of bytes of words as they are sent.
 ghost use Rattle.std.specs.Prelude.{◌≡◌, ◌≢◌, ◌^◌, ◌<◌, ◌≤◌, ◌∷◌, [], ℕ, List, length, map, MatchOption};
 ghost use Rattle.xs_resp.specs.Line.{line};
 ghost use Rattle.xs_resp.specs.Grammar.{sent_word, sent_words, spelling};
@@ -10,7 +10,7 @@ use itoa::Buffer;
 use xs_bytes::{Bytes, natural};
 use xs_resp::Request;
 
-/// How many bytes a line with a number takes.
+/// The number of bytes of a line with a number.
 fn line_len(number: usize) -> usize
     ensures value { (marker : ℕ) → result ≡ length (line marker number) }
     ensures small { result ≤ 23 }
@@ -19,7 +19,7 @@ fn line_len(number: usize) -> usize
     buffer.format(number as u64).len() + 3
 }
 
-/// How many bytes a word takes as it is sent.
+/// The number of bytes of a word as it is sent.
 fn sent_len(word: &[u8]) -> usize
     requires { length (sent_word (escaped word.now)) < 2 ^ 64 }
     ensures { result ≡ length (sent_word (escaped word.now)) }
@@ -28,7 +28,7 @@ fn sent_len(word: &[u8]) -> usize
     line_len(size) + size + 2
 }
 
-/// How many bytes words take as they are sent.
+/// The number of bytes of words as they are sent.
 fn words_len(words: &[Bytes]) -> usize
     requires { length (sent_words (map escaped words.now)) < 2 ^ 64 }
     ensures { result ≡ length (sent_words (map escaped words.now)) }
@@ -40,7 +40,7 @@ fn words_len(words: &[Bytes]) -> usize
     size
 }
 
-/// How many bytes a first word, a checksum and further words take as they are sent.
+/// The number of bytes of a first word, a checksum and further words as they are sent.
 pub(crate) fn record_size(first: &[u8], sum: &[u8], rest: &[Bytes]) -> usize
     requires { length (sent_words (map escaped (first.now ∷ sum.now ∷ rest.now))) < 2 ^ 64 }
     ensures { result ≡ length (sent_words (map escaped (first.now ∷ sum.now ∷ rest.now))) }
@@ -48,7 +48,7 @@ pub(crate) fn record_size(first: &[u8], sum: &[u8], rest: &[Bytes]) -> usize
     sent_len(first) + sent_len(sum) + words_len(rest)
 }
 
-/// The words behind the first of a request that takes so many bytes, if the first is their size.
+/// The words after the first of a request of `len` bytes, if the first is their size.
 pub fn sized_words<'a>(sent: &Request<'a>, len: usize) -> Option<Request<'a>>
     requires { sent.now ≢ [] → len ≡ length (spelling sent.now) }
     ensures { MatchOption result ((words : List (List ℕ)) → sent.now ≢ with_size words)

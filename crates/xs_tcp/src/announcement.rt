@@ -1,19 +1,19 @@
-//! A line that says that the server listens, written once every thread has started. A thread of its own writes it:
-//! whoever reads it may take its time, and no connection waits for that.
+//! A line that reports that the server listens, written once every thread has started. A thread of its own writes it:
+//! its reader may be slow, and no connection waits for that.
 use std::alloc::{AllocError, Global};
 use std::sync::{Arc, Wait};
 use std::thread;
 use std::thread::{Parker, Threads};
 use xs_io::{Sink, write_all};
 
-/// Tells the thread that it is time.
+/// Wakes the thread that writes the line.
 #[derive(Drop)]
 pub struct Announcement {
-    // None once it was told.
+    // None once it was woken.
     thread: Option<Arc<Parker>>,
 }
 
-/// Writes the line once the thread is told to. A fault of the writer is passed over.
+/// Writes the line once the thread is woken. A fault of the writer is ignored.
 fn write_when_told<W: Sink + Drop, R: Wait>(rt: &R, told: &Parker, out: W, line: &[u8]) {
     told.park(rt);
     let mut out = out;
@@ -42,7 +42,7 @@ impl Announcement {
         }
     }
 
-    /// Another one for the same thread. It takes no memory.
+    /// A second handle of the same thread. It takes no memory.
     pub fn again(&self) -> Result<Announcement, AllocError> {
         match &self.thread {
             Some(parker) => Ok(Announcement {
@@ -52,7 +52,7 @@ impl Announcement {
         }
     }
 
-    /// Tells the thread, unless this one has done so before.
+    /// Wakes the thread, unless this handle has done so before.
     pub fn make(&mut self) {
         if let Some(parker) = self.thread.take() {
             parker.unpark();

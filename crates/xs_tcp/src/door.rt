@@ -1,5 +1,5 @@
-//! The door of a server that stays: one thread takes connections from the listener, another shows those out for which
-//! no worker was free in time. Nothing that these sent is executed.
+//! The door of a server that runs until it is stopped: one thread takes connections from the listener, another closes
+//! those for which no worker was free in time. Nothing that these sent is executed.
 use crate::hall::{Hall, Overdue};
 use crate::serve_gate::{AfterFailure, after_failure};
 use std::alloc::{AllocError, Global};
@@ -10,35 +10,36 @@ use std::thread::Threads;
 use std::time::{Clock, Duration, Instant};
 use std::{io, thread};
 
-/// What a connection is told for which no worker is free.
+/// The error for a connection for which no worker is free.
 const FULL: &[u8] = b"-ERR max number of clients reached\r\n";
 
-/// How long what such a connection still sends is read and dropped: else the system might drop what it was told.
+/// How long bytes that such a connection still sends are read and dropped, in milliseconds: else the system might drop
+/// the error before the client has read it.
 const FAREWELL_MILLIS: u64 = 100;
 
-/// How long the door waits before it calls `accept` again after a failure.
+/// How long the door waits before it calls `accept` again after a failure, in milliseconds.
 const PAUSE_MILLIS: u64 = 100;
 
-/// Linux's numbers of the errors of `accept` if there is no descriptor: of the process, of the system.
+/// Linux's numbers of the errors of `accept` if there is no descriptor: in the process, in the system.
 const EMFILE: i32 = 24;
 
 const ENFILE: i32 = 23;
 
-/// A connection that was told to leave.
+/// A connection that was refused.
 #[derive(Drop)]
 struct Leaving {
     stream: TcpStream,
     since: Instant,
 }
 
-/// Tells a connection that it can't be served, and shuts this side down. Nothing here waits.
+/// Reports to a connection that it can't be served, and shuts this side down. Nothing here waits.
 fn tell_to_leave(mut stream: &TcpStream) {
     let _ = stream.set_nonblocking(true);
     let _ = stream.write(FULL);
     let _ = stream.shutdown(Shutdown::Write);
 }
 
-/// Drops what the connection has sent. It says whether the client has gone.
+/// Drops what the connection has sent. Returns whether the client has gone.
 fn drop_bytes(mut stream: &TcpStream) -> bool {
     let mut piece = [0u8; 4096];
     for _ in 0..16 {
@@ -52,7 +53,7 @@ fn drop_bytes(mut stream: &TcpStream) -> bool {
     false
 }
 
-/// Whether a connection that was told to leave may be closed.
+/// Whether a connection that was refused can be closed.
 fn is_gone<S: Clock>(system: &S, leaving: &Leaving) -> bool {
     drop_bytes(&leaving.stream)
         || leaving.since.elapsed(system).map_or(
@@ -61,7 +62,7 @@ fn is_gone<S: Clock>(system: &S, leaving: &Leaving) -> bool {
         )
 }
 
-/// Shows those out for whom no worker was free in time, until the hall is closed.
+/// Refuses connections for which no worker was free in time, until the hall is closed.
 fn show_out<R: Wait + Clock>(rt: &R, alloc: Global, hall: &Hall) {
     let mut leaving: Vec<Leaving> = Vec::new(alloc);
     for _ in rt.forever() {
@@ -79,7 +80,7 @@ fn show_out<R: Wait + Clock>(rt: &R, alloc: Global, hall: &Hall) {
     }
 }
 
-/// Tells a connection to leave, and waits until it may be closed.
+/// Refuses a connection, and waits until it can be closed.
 fn see_off<S: Clock>(system: &S, stream: &TcpStream) {
     tell_to_leave(stream);
     for _ in 0..FAREWELL_MILLIS / 10 {
@@ -90,11 +91,11 @@ fn see_off<S: Clock>(system: &S, stream: &TcpStream) {
     }
 }
 
-/// Takes a connection, if one waits, by the descriptor that is kept for this, and sends it away: none is left to serve
-/// it by.
+/// Refuses a connection, if one waits. It is taken with the descriptor that is reserved for this, since no other is
+/// left.
 fn turn_away<S: Clock>(system: &S, listener: &TcpListener, spare: &mut Option<TcpListener>) {
     *spare = None;
-    // Without a descriptor `accept` fails before it waits, so there may be nobody.
+    // Without a descriptor `accept` fails before it waits, so perhaps no connection waits.
     let _ = listener.set_nonblocking(true);
     let accepted = listener.accept();
     let _ = listener.set_nonblocking(false);
@@ -105,7 +106,7 @@ fn turn_away<S: Clock>(system: &S, listener: &TcpListener, spare: &mut Option<Tc
     *spare = listener.try_clone().ok();
 }
 
-/// What the door does after this error of `accept`. It says whether it goes on.
+/// What the door does after this error of `accept`. Returns whether it goes on.
 fn after_error<R: Clock>(
     rt: &R,
     error: &io::Error,
@@ -129,7 +130,7 @@ fn after_error<R: Clock>(
     }
 }
 
-/// Lets connections into the hall, until the listener gives none any more; then it closes the hall.
+/// Lets connections into the hall until the listener gives none any more; then it closes the hall.
 fn let_in<R: Wait + Clock>(rt: &R, listener: &TcpListener, hall: &Hall) {
     let mut spare = listener.try_clone().ok();
     for _ in rt.forever() {

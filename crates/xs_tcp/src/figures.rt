@@ -1,11 +1,11 @@
-//! What the server counts, for INFO. Each thread writes figures of its own, and anyone reads them.
+//! The figures of the server for INFO. Each thread writes figures of its own, and any thread reads them.
 use crossbeam_utils::CachePadded;
 use std::alloc::{AllocError, Global};
 use std::sync::Arc;
 use std::sync::atomic::{AtomicBool, AtomicU64, Ordering};
 use xs_session::Tally;
 
-/// What one worker counts. It alone writes these.
+/// The figures of one worker, which only this worker writes.
 #[derive(Drop)]
 pub struct WorkerFigures {
     opened: AtomicU64,
@@ -14,17 +14,17 @@ pub struct WorkerFigures {
     errors: AtomicU64,
 }
 
-/// The figures of a worker, in a line of memory that no other thread writes.
+/// The figures of a worker, in a cache line that no other thread writes.
 pub type SharedFigures = Arc<CachePadded<WorkerFigures>>;
 
-/// Counts one more. Nobody else writes this figure.
+/// Counts one more. No other thread writes this figure.
 fn count(figure: &AtomicU64) {
     let value = figure.load(Ordering::Relaxed);
     figure.store(value.wrapping_add(1), Ordering::Relaxed);
 }
 
 impl WorkerFigures {
-    /// The figures of a worker that has served nobody.
+    /// The figures of a worker that has served no connection.
     pub fn new(alloc: Global) -> Result<SharedFigures, AllocError> {
         let figures = WorkerFigures {
             opened: AtomicU64::new(0),
@@ -35,24 +35,24 @@ impl WorkerFigures {
         Ok(Arc::new(alloc, CachePadded::new(figures))?)
     }
 
-    /// A connection begins.
+    /// Counts a connection that begins.
     pub fn open(&self) {
         count(&self.opened);
     }
 
-    /// It has ended.
+    /// Counts a connection that has ended.
     pub fn close(&self) {
         count(&self.closed);
     }
 
-    /// So much was answered, over all its connections.
+    /// Notes the number of answers over all its connections.
     pub fn note(&self, tally: Tally) {
         self.replies.store(tally.replies, Ordering::Relaxed);
         self.errors.store(tally.errors, Ordering::Relaxed);
     }
 }
 
-/// What all workers have counted together.
+/// The sums of the figures of all workers.
 #[derive(Clone, Copy, Debug, Default, PartialEq, Eq)]
 pub struct Sums {
     pub opened: u64,
@@ -62,7 +62,7 @@ pub struct Sums {
 }
 
 impl Sums {
-    /// With the figures of one worker more.
+    /// With the figures of one more worker.
     fn with(self, one: &WorkerFigures) -> Sums {
         Sums {
             opened: self.opened.wrapping_add(one.opened.load(Ordering::Relaxed)),
@@ -74,35 +74,35 @@ impl Sums {
         }
     }
 
-    /// How many connections are served.
+    /// The number of connections that are served.
     pub fn connected(&self) -> u64 {
         self.opened.saturating_sub(self.closed)
     }
 }
 
-/// What the keeper tells between its turns, if it is asked.
+/// The figures that the keeper reports between its turns, if they are requested.
 #[derive(Drop)]
 struct KeeperFigures {
     bytes_held: AtomicU64,
     blocked: AtomicU64,
-    // How often it has told.
+    // The number of reports.
     told: AtomicU64,
-    // Whether it is to tell.
+    // Whether a report is requested.
     asked: AtomicBool,
-    // Whether it waits for calls, and has told before.
+    // Whether it waits for calls, and has reported before.
     rests: AtomicBool,
 }
 
-/// What the keeper has between two turns.
+/// The figures of the keeper between two turns.
 #[derive(Clone, Copy, Debug, PartialEq, Eq)]
 pub struct KeeperState {
-    /// How many bytes the keys are counted with.
+    /// The number of bytes that the keys are counted with.
     pub bytes_held: u64,
-    /// How many calls wait.
+    /// The number of calls that wait.
     pub blocked: u64,
 }
 
-/// What all threads of a server count.
+/// The figures of all threads of a server.
 #[derive(Drop)]
 pub struct Figures {
     workers: Vec<SharedFigures>,
@@ -125,7 +125,7 @@ impl Figures {
         }
     }
 
-    /// The keeper has this.
+    /// Reports the figures of the keeper.
     pub fn tell(&self, state: KeeperState) {
         self.keeper
             .bytes_held
@@ -137,7 +137,7 @@ impl Figures {
             .store(told.wrapping_add(1), Ordering::SeqCst);
     }
 
-    /// The keeper goes on, and says whether it is to tell what it has.
+    /// Notes that the keeper goes on. Returns whether a report is requested.
     pub fn is_asked(&self) -> bool {
         if self.keeper.rests.load(Ordering::Relaxed) {
             self.keeper.rests.store(false, Ordering::SeqCst);
@@ -149,35 +149,35 @@ impl Figures {
         true
     }
 
-    /// The keeper has told, and waits for calls.
+    /// Notes that the keeper has reported, and waits for calls.
     pub fn rest(&self) {
         self.keeper.rests.store(true, Ordering::SeqCst);
     }
 
-    /// Asks the keeper to tell, and gives how often it has.
+    /// Requests a report of the keeper. Returns the number of reports before.
     pub fn ask(&self) -> u64 {
         let told = self.keeper.told.load(Ordering::SeqCst);
         self.keeper.asked.store(true, Ordering::SeqCst);
         told
     }
 
-    /// Whether the keeper has told since it had done so so often: then its figures are behind each answer that was given
-    /// until then.
+    /// Whether the keeper has reported since there were this many reports: then its figures include each answer that
+    /// was given until then.
     pub fn has_told_since(&self, told: u64) -> bool {
         self.keeper.rests.load(Ordering::SeqCst) || self.keeper.told.load(Ordering::SeqCst) != told
     }
 
-    /// How many bytes the keys are counted with.
+    /// The number of bytes that the keys are counted with.
     pub fn bytes_held(&self) -> u64 {
         self.keeper.bytes_held.load(Ordering::Relaxed)
     }
 
-    /// How many calls wait.
+    /// The number of calls that wait.
     pub fn blocked(&self) -> u64 {
         self.keeper.blocked.load(Ordering::Relaxed)
     }
 
-    /// What all workers have counted.
+    /// The sums of the figures of all workers.
     pub fn sums(&self) -> Sums {
         let mut sums = Sums::default();
         for one in &self.workers {

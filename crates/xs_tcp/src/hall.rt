@@ -1,14 +1,14 @@
-//! Where connections wait for a worker.
+//! The queue of connections that wait for a worker.
 use std::alloc::{AllocError, Global};
 use std::collections::VecDeque;
 use std::net::TcpStream;
 use std::sync::{Condvar, Mutex, Wait};
 use std::time::{Clock, Duration, Instant};
 
-/// How long a connection waits for a worker.
+/// How long a connection waits for a worker, in milliseconds.
 const PATIENCE_MILLIS: u64 = 1000;
 
-/// How long whoever shows connections out sleeps while he has some in hand.
+/// How long the thread that refuses connections sleeps while it has some in hand, in milliseconds.
 const BEAT_MILLIS: u64 = 10;
 
 /// A connection that waits for a worker.
@@ -21,17 +21,17 @@ struct Arrival {
 #[derive(Drop)]
 struct Waiting {
     arrivals: VecDeque<Arrival>,
-    // Those that had to make room.
+    // Connections that had to make room.
     leaving: VecDeque<TcpStream>,
-    // How many workers wait for a connection.
+    // The number of workers that wait for a connection.
     idle_workers: usize,
-    // At most so many workers haven't come for their first connection yet.
+    // An upper bound of the workers that haven't come for their first connection yet.
     starting_workers: usize,
-    // No further connection comes.
+    // Whether no further connection comes.
     is_closed: bool,
 }
 
-/// Where connections wait for a worker, in the order in which they came.
+/// The queue of connections that wait for a worker, in the order in which they came.
 #[derive(Drop)]
 pub struct Hall {
     waiting: Mutex<Waiting>,
@@ -42,7 +42,7 @@ pub struct Hall {
     room: usize,
 }
 
-/// What there is to do for whoever shows connections out.
+/// What the thread that refuses connections has to do.
 #[derive(Drop)]
 pub enum Overdue {
     /// No worker was free for this one in time, or it had to make room.
@@ -54,8 +54,8 @@ pub enum Overdue {
 }
 
 impl Hall {
-    /// A hall for so many workers, in which so many connections may wait beside those that workers are about to take,
-    /// at least one.
+    /// A hall for `workers` workers, with room for `room` connections, at least one, besides those that workers are
+    /// about to take.
     pub fn new(alloc: Global, room: usize, workers: usize) -> Result<Hall, AllocError> {
         let most = room.max(1).saturating_add(workers);
         let waiting = Waiting {
@@ -100,7 +100,7 @@ impl Hall {
         }
     }
 
-    /// The connection that has waited longest; it waits for one. None if no further one comes.
+    /// Waits for a connection, and returns the one that has waited longest. None if no further one comes.
     pub fn next<R: Wait>(&self, rt: &R) -> Option<TcpStream> {
         let mut waiting = self.waiting.lock(rt);
         waiting.starting_workers = waiting.starting_workers.saturating_sub(1);
@@ -112,8 +112,8 @@ impl Hall {
         Some(waiting.arrivals.pop_front()?.stream)
     }
 
-    /// Waits until a connection has waited too long for a worker, and gives it. It comes back soon with nobody if the
-    /// caller is busy.
+    /// Waits until a connection has waited too long for a worker, and returns it. If the caller is busy, it soon
+    /// returns `Nobody`.
     pub fn next_overdue<R: Wait + Clock>(&self, rt: &R, is_busy: bool) -> Overdue {
         let patience = Duration::from_millis(PATIENCE_MILLIS);
         let mut waiting = self.waiting.lock(rt);
@@ -145,7 +145,7 @@ impl Hall {
         Overdue::Nobody
     }
 
-    /// No further connection comes.
+    /// Notes that no further connection comes.
     pub fn close<R: Wait>(&self, rt: &R) {
         self.waiting.lock(rt).is_closed = true;
         self.arrived.notify_all();

@@ -1,10 +1,10 @@
-//! The two halves of a connection over TCP. A gate makes their memory once, for all its connections.
+//! The two halves of a connection over TCP. A gate takes their memory once, for all its connections.
 //!
-//! While a call waits nobody reads, so somebody has to look whether the client is still there. Whether it has closed
-//! its side shows only behind the bytes that it sent before. So a look reads them, without waiting, into a buffer that
-//! the reader takes them from later. Once that is full a reset connection alone shows.
+//! While a call waits the connection isn't read, so another thread has to look whether the client is still there.
+//! Whether the client has closed its side shows only after the bytes that it sent before. So a look reads them, without
+//! waiting, into a buffer from which the reader takes them later. Once that is full, only a reset connection shows.
 //!
-//! A client that hasn't given the password has until a deadline, for all that it sends and takes.
+//! A client that hasn't given the password has until a deadline to do so, whatever it sends and takes.
 ghost use Rattle.std.specs.Prelude.{◌≤◌, length, IfOk, IfSome};
 ghost use Rattle.xs_work.specs.Gates.{AreFresh};
 
@@ -16,7 +16,7 @@ use std::sync::{Arc, Mutex, Wait};
 use std::time::{Clock, Duration};
 use xs_io::{FromRead, Sink, Source, ToWrite};
 
-/// How many bytes are read while a call waits, and how many at once.
+/// The most bytes that are read while a call waits. `LOOK_BYTES` is the most at once.
 const AHEAD: usize = 1_048_576;
 
 const LOOK_BYTES: usize = 4096;
@@ -24,7 +24,7 @@ const LOOK_BYTES: usize = 4096;
 /// How many seconds a client has to give the password.
 const SECONDS_FOR_PASSWORD: u64 = 10;
 
-/// What both halves of a connection share, and then those of the next one.
+/// What both halves of a connection share, and then those of the next connection.
 #[derive(Drop)]
 struct Shared {
     // None between two connections.
@@ -32,27 +32,27 @@ struct Shared {
     // What was read while a call waited, from `ahead_at` on.
     ahead: Vec<u8>,
     ahead_at: usize,
-    // The client has closed its side, or the connection has failed.
+    // Whether the client has closed its side, or the connection has failed.
     has_ended: bool,
     // How long a client may send nothing, or take nothing of a reply.
     idle: Option<Duration>,
-    // When the connection ends whose client hasn't given the password, by the monotonic clock.
+    // The moment at which the connection ends if its client hasn't given the password, by the monotonic clock.
     deadline: Option<Duration>,
 }
 
-/// How long a stream waits at most. Without these times a client is slower to be closed: no reason to refuse it.
+/// Sets how long a stream waits at most. If that fails, a client is closed later, which is no reason to refuse it.
 fn set_patience(stream: &TcpStream, patience: Option<Duration>) {
     let _ = stream.set_read_timeout(patience);
     let _ = stream.set_write_timeout(patience);
 }
 
-/// How long a client may still wait: up to the deadline, and no longer than it may be idle.
+/// How long a client may still wait: up to the deadline, and at most as long as it may be idle.
 fn patience_at(now: Duration, deadline: Duration, idle: Option<Duration>) -> Option<Duration> {
     let left = deadline.checked_sub(now).filter(|left| !left.is_zero())?;
     Some(idle.map_or(left, |idle| idle.min(left)))
 }
 
-/// Whether a stream may wait for its client. If there is a deadline, it waits no longer.
+/// Whether a stream may wait for its client. If there is a deadline, it waits at most until then.
 fn may_wait<S: Clock>(system: &S, shared: &Shared, stream: &TcpStream) -> bool {
     let Some(deadline) = shared.deadline else {
         return true;
@@ -65,7 +65,7 @@ fn may_wait<S: Clock>(system: &S, shared: &Shared, stream: &TcpStream) -> bool {
     patience.is_some()
 }
 
-/// The client has given the password: there is no deadline any more.
+/// The client has given the password: the deadline is removed.
 fn let_in(shared: &mut Shared) {
     if shared.deadline.is_none() {
         return;
@@ -76,25 +76,26 @@ fn let_in(shared: &mut Shared) {
     }
 }
 
-/// The client has to give the password, by a deadline that begins now unless there is one.
+/// The client has to give the password, by a deadline that begins now unless there is one already.
 fn ask_for_password<S: Clock>(system: &S, shared: &mut Shared) {
     if shared.deadline.is_none() {
         shared.deadline = Some(password_deadline(system));
     }
 }
 
-/// When a client of now has to have given the password, by the monotonic clock. Without a clock that is at once.
+/// The moment by which a client of now has to have given the password, by the monotonic clock. If the clock can't be
+/// read, that is at once.
 pub fn password_deadline<S: Clock>(system: &S) -> Duration {
     let now = system.monotonic().unwrap_or(Duration::ZERO);
     now.saturating_add(Duration::from_secs(SECONDS_FOR_PASSWORD))
 }
 
-/// The error of a half that is used by two at once, or behind the end of its connection.
+/// The error of a half that is used by two threads at once, or after the end of its connection.
 fn busy() -> io::Error {
     io::Error::from(ErrorKind::ResourceBusy)
 }
 
-/// Sends bytes from the front of a slice, and says how many. An interrupted write is made again.
+/// Sends bytes from the front of a slice, and returns their number. An interrupted write is repeated.
 fn send<S: Clock>(system: &S, shared: &Shared, from: &[u8]) -> io::Result<usize>
     ensures { IfOk result (λ n. n ≤ length from.now) }
 {
@@ -136,7 +137,7 @@ fn take_ahead(shared: &mut Shared, into: &mut [u8]) -> usize
     count
 }
 
-/// Waits for bytes. An interrupted read is made again; one whose time is over is the end.
+/// Waits for bytes. An interrupted read is repeated; one whose time is over is the end.
 fn receive<S: Clock>(system: &S, shared: &mut Shared, into: &mut [u8]) -> io::Result<usize>
     ensures { IfOk result (λ n. n ≤ length into.new) }
 {
@@ -162,7 +163,7 @@ fn receive<S: Clock>(system: &S, shared: &mut Shared, into: &mut [u8]) -> io::Re
     Err(io::Error::from(ErrorKind::Interrupted))
 }
 
-/// Whether a read has failed only since no bytes have come: in time, or yet.
+/// Whether a read has failed only because no bytes have come: in time, or yet.
 fn is_without_bytes(error: &io::Error) -> bool {
     matches!(error.kind(), ErrorKind::WouldBlock | ErrorKind::TimedOut)
 }
@@ -172,8 +173,8 @@ fn has_failed(stream: &TcpStream) -> bool {
     !matches!(stream.take_error(), Ok(None))
 }
 
-/// Reads what has come, up to AHEAD bytes in all, from a stream that doesn't wait. It says whether the stream has
-/// ended.
+/// Reads the bytes that have come, up to `AHEAD` bytes in all, from a stream that doesn't wait. Returns whether the
+/// stream has ended.
 fn read_ahead(mut stream: &TcpStream, ahead: &mut Vec<u8>) -> bool {
     let mut piece = [0u8; LOOK_BYTES];
     for _ in 0..AHEAD / LOOK_BYTES {
@@ -212,11 +213,11 @@ fn has_left(shared: &mut Shared) -> bool {
     shared.has_ended
 }
 
-/// Where the requests come from.
+/// The reader of the requests.
 #[derive(Drop)]
 pub struct Incoming<S: Drop> {
     system: S,
-    // Nobody looks while it reads: no call waits then.
+    // No other thread looks while it reads: no call waits then.
     shared: Arc<Mutex<Shared>>,
 }
 
@@ -229,7 +230,8 @@ impl<S: Clock + Drop> Read for Incoming<S> {
     }
 }
 
-/// Where the replies go. While a call waits its client may be looked after: a write waits until that look is over.
+/// The writer of the replies. While a call waits another thread may look at the client: a write waits until that look
+/// is over.
 pub struct Outgoing<S: Drop> {
     system: S,
     shared: Arc<Mutex<Shared>>,
@@ -255,15 +257,15 @@ impl<S: Clock + Wait + Drop> Write for Outgoing<S> {
     }
 }
 
-/// The clients of a gate's connections, one after the other, as far as one can see whether they are still there.
+/// The clients of a gate's connections, one after the other: whether they are still there, as far as that can be seen.
 #[derive(Drop)]
 pub struct Peer {
     shared: Arc<Mutex<Shared>>,
 }
 
 impl Peer {
-    /// Whether the client of the present connection has left. It is asked while a call of this connection waits: then
-    /// nobody reads or writes. While somebody else looks, the client is taken to be there.
+    /// Whether the client of the present connection has left. It may be called while a call of this connection waits:
+    /// then the connection isn't read or written. While another thread looks, the client counts as there.
     pub fn has_left(&self) -> bool {
         match self.shared.try_lock() {
             Some(mut shared) => has_left(&mut shared),
@@ -271,21 +273,22 @@ impl Peer {
         }
     }
 
-    /// Lets the client of the present connection take its time: it has given the password.
+    /// Removes the deadline of the present connection's client: it has given the password.
     pub fn let_in(&self) {
         if let Some(mut shared) = self.shared.try_lock() {
             let_in(&mut shared);
         }
     }
 
-    /// The client of the present connection has to give the password, by a deadline that begins now unless there is one.
+    /// The client of the present connection has to give the password, by a deadline that begins now unless there is one
+    /// already.
     pub fn ask_for_password<S: Clock>(&self, system: &S) {
         if let Some(mut shared) = self.shared.try_lock() {
             ask_for_password(system, &mut shared);
         }
     }
 
-    /// Whether a look has found that it has left.
+    /// Whether a look has found that the client has left.
     pub fn was_seen_to_leave(&self) -> bool {
         match self.shared.try_lock() {
             Some(shared) => shared.has_ended,
@@ -304,7 +307,7 @@ pub struct HalvesMemory {
 }
 
 impl HalvesMemory {
-    /// What the halves need of connections that may be idle so long.
+    /// The memory for the halves of connections that may be idle for this long.
     pub fn new(alloc: Global, idle: Option<Duration>) -> Result<Self, AllocError> {
         let shared = Shared {
             stream: None,
@@ -326,8 +329,8 @@ impl HalvesMemory {
         })
     }
 
-    /// Both halves of a stream. They take no memory. None while the halves of another connection are in use. Its client
-    /// has to give a password up to the deadline, by the monotonic clock, if there is one.
+    /// Both halves of a stream. They take no memory. None while the halves of another connection are in use. If there
+    /// is a deadline, by the monotonic clock, the client has to give the password by then.
     pub fn halves_of<S: Clock + Wait + Copy + Drop>(
         &self,
         system: S,

@@ -33,36 +33,36 @@ const SECTIONS: [Section; 7] = [
     Section::Keyspace,
 ];
 
-/// At most so many names of sections are looked at.
+/// The most names of sections that are looked at.
 const MOST_NAMES: usize = 16;
 
-/// What was settled of a log.
+/// The settings of a log.
 #[derive(Drop)]
 pub struct LogSettings {
     /// When it is synced.
     pub sync: SyncPolicy,
     /// When the server compacts its folder.
     pub compact: CompactPolicy,
-    /// What became of that.
+    /// The state of the compactions.
     pub compactions: Arc<CompactionState>,
 }
 
-/// What was settled before the server began to serve.
+/// The settings of a server.
 #[derive(Drop)]
 pub struct Settings {
     /// The version of the program.
     pub version: &'static str,
     pub port: u16,
     pub workers: u64,
-    /// How many bytes the queues may hold; 0 if there is no bound.
+    /// The most bytes that the queues may have; 0 if there is no bound.
     pub max_memory: u64,
     /// The log, if there is one.
     pub log: Option<LogSettings>,
-    /// When it began, by the monotonic clock.
+    /// The moment at which it began, by the monotonic clock.
     pub started: Duration,
 }
 
-/// What INFO tells of a server.
+/// What INFO reports about a server.
 #[derive(Drop)]
 pub struct Information {
     pub settings: Settings,
@@ -83,7 +83,7 @@ fn names(word: &Word<'_>, section: Section) -> bool {
     word.is(name) || word.is(b"default") || word.is(b"all") || word.is(b"everything")
 }
 
-/// Whether a section is asked for: each is if none is named.
+/// Whether a section is asked for: all are if none is named.
 fn is_asked(section: Section, named: &Words<'_>) -> bool {
     if section == Section::Keyspace {
         return names_keyspace(named);
@@ -101,7 +101,7 @@ fn is_asked(section: Section, named: &Words<'_>) -> bool {
     false
 }
 
-/// What the policy of syncs is called.
+/// The name of a policy of syncs.
 fn sync_name(policy: SyncPolicy) -> &'static str {
     match policy {
         SyncPolicy::Always => "always",
@@ -110,7 +110,7 @@ fn sync_name(policy: SyncPolicy) -> &'static str {
     }
 }
 
-/// What the policy of compactions is called.
+/// The name of a policy of compactions.
 fn compact_name(policy: CompactPolicy) -> &'static str {
     match policy {
         CompactPolicy::Serving => "serving",
@@ -120,7 +120,7 @@ fn compact_name(policy: CompactPolicy) -> &'static str {
 }
 
 impl LogSettings {
-    /// The section that tells of the log.
+    /// The section about the log.
     fn persistence(&self, alloc: Global) -> Result<String, AllocError> {
         let sync = sync_name(self.sync);
         let is_running = u8::from(self.compactions.is_running());
@@ -140,7 +140,7 @@ impl LogSettings {
 }
 
 impl Information {
-    /// The section that tells of the program.
+    /// The section about the program.
     fn server<S: Clock>(&self, system: &S, alloc: Global) -> Result<String, AllocError> {
         let version = self.settings.version;
         let port = self.settings.port;
@@ -153,7 +153,7 @@ impl Information {
         )
     }
 
-    /// The section that tells of connections.
+    /// The section about connections.
     fn clients(&self, alloc: Global, sums: Sums) -> Result<String, AllocError> {
         let connected = sums.connected();
         let blocked = self.figures.blocked();
@@ -163,7 +163,7 @@ impl Information {
         )
     }
 
-    /// The section that tells of memory.
+    /// The section about memory.
     fn memory<S: Files + Alloc<A = Global>>(
         &self,
         system: &S,
@@ -178,7 +178,7 @@ impl Information {
         )
     }
 
-    /// The section that tells of the log, if there is one.
+    /// The section about the log, if there is one.
     fn persistence(&self, alloc: Global) -> Result<String, AllocError> {
         match &self.settings.log {
             Some(log) => log.persistence(alloc),
@@ -190,7 +190,7 @@ impl Information {
         }
     }
 
-    /// The section that tells what was served.
+    /// The section about what was served.
     fn stats(&self, alloc: Global, sums: Sums) -> Result<String, AllocError> {
         let opened = sums.opened;
         let replies = sums.replies;
@@ -221,8 +221,8 @@ impl Information {
         }
     }
 
-    /// The sections that these words name, all if there is none, with an empty line between two. The last one is that of
-    /// the keyspace, whose line is still to come.
+    /// The sections that these words name, all if there are none, with an empty line between two. The last one is that
+    /// of the keyspace, whose line is added later.
     pub fn text<S: Clock + Files + Alloc<A = Global>>(
         &self,
         system: &S,

@@ -1,5 +1,5 @@
-//! Connections over TCP: gates whose connections are sockets, who lets them in and shows them out, how their calls wait
-//! and their clients are looked after, and what is told of all that.
+//! Connections over TCP: gates whose connections are sockets, the threads that accept and refuse connections, how calls
+//! wait while their clients are watched, and the figures of the server.
 #![tactic(auto)]
 
 pub mod announcement;

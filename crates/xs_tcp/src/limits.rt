@@ -3,23 +3,23 @@ use std::alloc::{Alloc, Global};
 use std::fs;
 use std::fs::Files;
 
-/// Where Linux shows the limits of a process.
+/// The file in which Linux shows the limits of a process.
 const LIMITS: &str = "/proc/self/limits";
 
-/// Where Linux shows how much memory a process has, in pages.
+/// The file in which Linux shows how much memory a process has, in pages.
 const MEMORY: &str = "/proc/self/statm";
 
-/// How many bytes a page has.
+/// The number of bytes of a page.
 const PAGE: u64 = 4096;
 
-/// How the line begins that shows how many files it may have open.
+/// The beginning of the line that shows how many files may be open.
 const OPEN_FILES: &str = "Max open files";
 
-/// How many files are open besides the connections of workers: standard streams, listener and its double, one to read
-/// limits by, and some for connections that come or leave.
+/// The number of files that are open besides the connections of workers: standard streams, listener and its double, one
+/// to read limits from, and some for connections that come or leave.
 pub const OTHER_FILES: u64 = 32;
 
-/// How many connections may wait for a worker at once, at most.
+/// The most connections that may wait for a worker at once.
 const MOST_WAITING: u64 = 1024;
 
 /// The number that this text of limits shows for open files, if it shows one.
@@ -29,25 +29,25 @@ pub fn open_files_in(text: &str) -> Option<u64> {
     words.split_whitespace().next()?.parse::<u64>().ok()
 }
 
-/// How many files this process may have open. None if there is no limit, or the system doesn't show it.
+/// The number of files that this process may have open. None if there is no limit, or the system doesn't show it.
 pub fn open_files<R: Files + Alloc<A = Global>>(rt: &R) -> Option<u64> {
     let text = fs::read_to_string(rt, LIMITS).ok()?;
     open_files_in(text.as_str())
 }
 
-/// How many bytes this text of memory shows as resident, if it shows any: its second number, in pages.
+/// The number of bytes that this text of memory shows as resident, if it shows any: its second number, in pages.
 pub fn resident_in(text: &str) -> Option<u64> {
     let pages = text.split_whitespace().nth(1)?.parse::<u64>().ok()?;
     pages.checked_mul(PAGE)
 }
 
-/// How many bytes of memory this process has resident. None if the system doesn't show it.
+/// The number of bytes of memory that this process has resident. None if the system doesn't show it.
 pub fn resident_bytes<R: Files + Alloc<A = Global>>(rt: &R) -> Option<u64> {
     let text = fs::read_to_string(rt, MEMORY).ok()?;
     resident_in(text.as_str())
 }
 
-/// How many connections may wait for a worker, if so many files may be open; None if these are too few for the workers.
+/// How many connections may wait for a worker if `files` files may be open. None if these are too few for the workers.
 pub fn waiting_room(workers: u64, files: Option<u64>) -> Option<u64> {
     match files {
         Some(files) => {

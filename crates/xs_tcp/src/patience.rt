@@ -1,8 +1,8 @@
-//! How calls wait in a server that stays, and how their clients are looked after.
+//! How calls wait in a server that runs until it is stopped, and how their clients are watched.
 //!
-//! While its call waits a worker sends the replies that it owes, and looks once a second whether its client is still
-//! there, and if not it lets the keeper answer as if the time of the wait were over. Before the keeper gives something
-//! to a call that has waited it looks too, so that a job goes to one that is there.
+//! While its call waits a worker sends the replies that are unsent, and looks once a second whether its client is still
+//! there. If it isn't, the worker lets the keeper answer as if the time of the wait were over. Before the keeper gives
+//! something to a call that has waited it looks too, so a job goes to a client that is there.
 use crate::figures::{Figures, KeeperState, SharedFigures};
 use crate::halves::Peer;
 use crate::information::{Information, Settings};
@@ -17,35 +17,37 @@ use xs_desk::{Client, Journal, Keeper, Pause};
 use xs_session::Tally;
 use xs_work::{Attend, KeeperMode, Mode, SessionMemory};
 
-/// How often a worker looks after its client.
+/// How often a worker looks at its client, in milliseconds.
 const BEAT_MILLIS: u64 = 1000;
 
-/// How long a worker lets others go on while it waits for memory, or for the keeper's figures.
+/// How long a worker lets other threads go on while it waits for memory, or for the keeper's figures, in milliseconds.
 const REST_MILLIS: u64 = 1;
 
-/// How often it does so, at most, for the keeper's figures.
+/// How often it does so at most for the keeper's figures.
 const MOST_RESTS: u32 = 1000;
 
-/// After how long a worker sends the replies to the requests before the one whose answer it waits for.
+/// After how many milliseconds a worker sends the replies to the requests before the one whose answer it waits for.
 const PROMPT_MILLIS: u64 = 1;
 
-/// Up to so many workers have the memory of their connections from the start on. Of more, most may never serve anybody.
+/// Up to this number workers have the memory of their connections from the start on. Of more, most may never serve a
+/// connection.
 const MADE_AT_START: usize = 64;
 
-/// How a worker waits whose client may leave.
+/// How a worker waits if its client may leave.
 #[derive(Drop)]
 pub struct Watch<S: Drop> {
     system: S,
-    // What INFO reads files by.
+    // By which INFO reads files.
     files: HostRuntime,
     peer: Peer,
-    // What this worker counts.
+    // The figures of this worker.
     own: SharedFigures,
     information: Arc<Information>,
 }
 
 impl<S: Wait + Clock + Drop> Watch<S> {
-    /// Waits until the keeper has told what it has behind the answers that were given until now, for a second at most.
+    /// Waits until the keeper has reported figures that include the answers that were given until now, for at most a
+    /// second.
     fn wait_for_keeper(&self) {
         let figures = &self.information.figures;
         let told = figures.ask();
@@ -106,7 +108,7 @@ impl<S: Wait + Clock + Drop> Attend for Watch<S> {
     }
 }
 
-/// Calls wait, and with many workers the memory of connections is made when they come.
+/// Calls wait, and with many workers the memory of connections is taken when they come.
 #[derive(Drop)]
 pub struct Patience<S: Drop> {
     system: S,
@@ -117,7 +119,7 @@ pub struct Patience<S: Drop> {
     information: Arc<Information>,
 }
 
-/// What a keeper has now.
+/// The figures of a keeper now.
 fn state_of<J: Journal + Drop>(keeper: &Keeper<J>) -> KeeperState {
     KeeperState {
         bytes_held: u64::try_from(keeper.bytes_held()).unwrap_or(u64::MAX),
@@ -125,7 +127,7 @@ fn state_of<J: Journal + Drop>(keeper: &Keeper<J>) -> KeeperState {
     }
 }
 
-/// What INFO tells of a server over these gates.
+/// What INFO reports about a server over these gates.
 fn information_of<S: Wait + Clock + Copy + Drop>(
     alloc: Global,
     gates: &[RunGate<S>],
@@ -143,7 +145,7 @@ fn information_of<S: Wait + Clock + Copy + Drop>(
 }
 
 impl<S: Wait + Clock + Copy + Drop> Patience<S> {
-    /// The way of the workers of these gates.
+    /// The mode of the workers of these gates.
     pub fn new(
         system: S,
         files: HostRuntime,
@@ -164,7 +166,7 @@ impl<S: Wait + Clock + Copy + Drop> Patience<S> {
         })
     }
 
-    /// The same, but answers that wait for a log are handed out after so many calls.
+    /// The same, but answers that wait for a log are handed out after this many calls.
     pub fn with_most_held_back(self, calls: u64) -> Patience<S> {
         let mut patience = self;
         patience.most_held_back = calls;

@@ -1,4 +1,4 @@
-//! A gate of a server that stays: it takes connections from the hall, without end.
+//! A gate of a server that runs until it is stopped: it takes connections from the hall, without end.
 ghost use Rattle.std.specs.Prelude.{◌≡◌, IfOk, IfSome};
 ghost use Rattle.xs_session.specs.declared.manner.Manner.TheVariants as manner;
 ghost use Rattle.xs_work.specs.Gates.{AreFresh, new_gate};
@@ -19,21 +19,21 @@ use xs_work::{Gate, GateFault, Register};
 /// A gate that takes connections from a hall, which other gates share.
 #[derive(Drop)]
 pub struct RunGate<S: Clock + Wait + Drop> {
-    // The clock that its worker waits by.
+    // The clock by which its worker waits.
     system: S,
     memory: HalvesMemory,
     hall: Arc<Hall>,
     announcement: Announcement,
-    // What a client has to give before it may ask anything.
+    // The password that a client has to give before it may send commands.
     password: Option<Password>,
     register: Register<FromRead<Incoming<S>>, ToWrite<Outgoing<S>>>,
-    // What its worker counts.
+    // The figures of its worker.
     figures: SharedFigures,
 }
 
 impl<S: Clock + Wait + Copy + Send + Drop> RunGate<S> {
-    /// A gate of this hall, whose connections may send nothing, or take nothing of a reply, so long, and have to give
-    /// the password, if there is one. At its first call it makes the announcement.
+    /// A gate of this hall, whose connections may be idle for `idle`, sending nothing or taking nothing of a reply, and
+    /// have to give the password, if there is one. At its first call it makes the announcement.
     pub fn new(
         system: S,
         alloc: Global,
@@ -56,7 +56,7 @@ impl<S: Clock + Wait + Copy + Send + Drop> RunGate<S> {
     }
 }
 
-/// The same password once more, if there is one.
+/// A second handle of the same password, if there is one.
 pub fn again(password: &Option<Password>) -> Option<Password>
     ensures { result ≡ password.now }
 {
@@ -67,7 +67,7 @@ pub fn again(password: &Option<Password>) -> Option<Password>
 }
 
 impl<S: Clock + Wait + Copy + Drop> RunGate<S> {
-    /// The clock that its worker waits by.
+    /// The clock by which its worker waits.
     pub fn system(&self) -> S {
         self.system
     }
@@ -77,12 +77,12 @@ impl<S: Clock + Wait + Copy + Drop> RunGate<S> {
         self.memory.peer()
     }
 
-    /// What its worker counts. It takes no memory.
+    /// The figures of its worker. It takes no memory.
     pub fn figures(&self) -> Result<SharedFigures, AllocError> {
         Arc::try_clone(&self.figures)
     }
 
-    /// When a connection of now ends whose client hasn't given the password.
+    /// The moment at which a connection of now ends if its client hasn't given the password.
     fn deadline(&self) -> Option<Duration> {
         self.password.as_ref()?;
         Some(password_deadline(&self.system))
@@ -93,12 +93,12 @@ impl<S: Clock + Wait + Copy + Drop> RunGate<S> {
         ensures { IfSome result (λ one. AreFresh (⟦<FromRead<Incoming<S>> as Source>⟧.rest one.0)
             (⟦<ToWrite<Outgoing<S>> as Sink>⟧.held one.1)) }
     {
-        // Without it replies may be late: no reason to refuse the connection.
+        // If this fails replies may be late, which is no reason to refuse the connection.
         let _ = stream.set_nodelay(true);
         self.memory.halves_of(self.system, stream, self.deadline())
     }
 
-    /// Waits for the next connection of the hall, and gives its halves. None once the hall is closed.
+    /// Waits for the next connection of the hall, and returns its halves. None once the hall is closed.
     fn take_next<R: Wait>(&self, rt: &R) -> Option<Halves<S>>
         ensures { IfSome result (λ one. AreFresh (⟦<FromRead<Incoming<S>> as Source>⟧.rest one.0)
             (⟦<ToWrite<Outgoing<S>> as Sink>⟧.held one.1)) }

@@ -23,10 +23,10 @@ const EINVAL: i32 = 22;
 
 const ENOTSOCK: i32 = 88;
 
-/// How long a gate waits before it calls `accept` again after a failure.
+/// How long a gate waits before it calls `accept` again after a failure, in milliseconds.
 const PAUSE_MILLIS: u64 = 100;
 
-/// So many connections of a listener, which other gates may share.
+/// A number of connections of a listener, which other gates may share.
 #[derive(Drop)]
 pub struct TcpGate<S: Clock + Wait + Drop> {
     memory: HalvesMemory,
@@ -38,7 +38,7 @@ pub struct TcpGate<S: Clock + Wait + Drop> {
 }
 
 impl<S: Clock + Wait + Copy + Send + Drop> TcpGate<S> {
-    /// A gate that takes so many connections from the listener, with all the memory that it needs for them. At its
+    /// A gate that takes a number of connections from the listener, with all the memory that it needs for them. At its
     /// first call it makes the announcement, which other gates may share.
     pub fn new(
         alloc: Global,
@@ -71,7 +71,7 @@ pub enum AfterFailure {
     End,
 }
 
-/// What a gate does after this error of `accept`: accept(2) of Linux lists them.
+/// What a gate does after this error of `accept`; accept(2) of Linux lists them.
 pub fn after_failure(error: &Error) -> AfterFailure {
     match error.raw_os_error() {
         Some(EBADF | EINVAL | ENOTSOCK) => AfterFailure::End,
@@ -97,7 +97,7 @@ fn accept<S: Clock>(system: &S, listener: &TcpListener) -> Result<TcpStream, Gat
     Err(GateFault::Refused)
 }
 
-/// Waits for the next of so many connections that are left, and gives its halves. None after the last.
+/// Waits for the next of the connections that are left, and returns its halves. None after the last.
 fn take_next<S: Clock + Wait + Copy + Drop>(
     system: &S,
     listener: &TcpListener,
@@ -110,7 +110,7 @@ fn take_next<S: Clock + Wait + Copy + Drop>(
     for _ in 0..*left {
         *left = left.saturating_sub(1);
         let stream = accept(system, listener)?;
-        // Without it replies may be late. So a fault here is no reason to refuse the connection.
+        // If this fails replies may be late, which is no reason to refuse the connection.
         let _ = stream.set_nodelay(true);
         if let Some(halves) = memory.halves_of(*system, stream, None) {
             return Ok(Some(halves));

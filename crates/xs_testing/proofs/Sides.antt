@@ -1,4 +1,4 @@
--- What a job does to its client, step by step.
+-- How a job changes its client, step by step.
 use Rattle.xs_desk.proofs.Sides.{side_again, ask_keeps_side}
 
 -- the steps of a job

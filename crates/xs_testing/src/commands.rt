@@ -33,7 +33,7 @@ pub fn read(alloc: Global, line: &str) -> Result<Command, Refusal>
     read_words(alloc, words.as_slice())
 }
 
-/// The call of a line of words, which brings them for a log.
+/// The call of a line of words, which it contains for a log.
 pub fn read_call(alloc: Global, line: &str) -> Result<Call, Refusal>
     ensures { IfOk result (λ call. IsFormed call) }
 {

@@ -1,5 +1,5 @@
-//! For tests and benchmarks: a desk with all its clients in one hand, its calls one by one, or with a thread for each
-//! client and one for the keeper; commands and replies as text; a clock that stands still.
+//! For tests and benchmarks: a desk with all its clients, used call by call, or with a thread for each client and one
+//! for the keeper; commands and replies as text; a clock that doesn't advance.
 #![tactic(auto)]
 
 pub mod commands;

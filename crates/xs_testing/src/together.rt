@@ -11,7 +11,7 @@ use std::thread::Threads;
 use xs_desk::{Client, Keeper, SameRings};
 use xs_keys::Clock;
 
-/// How often a client, or a keeper, looks at most.
+/// The most turns of a client or a keeper.
 pub const MOST_TURNS: u64 = 100_000_000;
 
 /// What a thread does with its client.
@@ -22,14 +22,14 @@ pub trait Job {
         ensures { KeepsSide client result };
 }
 
-/// A client and what is done with it.
+/// A client and its job.
 #[derive(Drop)]
 pub struct Seated<J> {
     client: Client,
     job: J,
 }
 
-/// Turns until it is told to stop and finds nobody to serve. It is idle after a turn that served nobody.
+/// Turns until `stop` is set and no call is found. It is idle after a turn that served no call.
 pub fn keep<C: Clock + Drop, R: Wait>(rt: &R, keeper: Keeper, clock: C, stop: &AtomicBool) -> Keeper
     ensures { KeepsRings keeper result }
 {
@@ -66,7 +66,7 @@ fn seat_all<J: Drop>(
     Ok(seated)
 }
 
-/// The clients, and what was done with them.
+/// The clients, and their jobs.
 fn parted<J: Drop>(
     alloc: Global,
     seated: Vec<Seated<J>>,
@@ -108,7 +108,7 @@ fn run_all<J: Job + Send + Drop, R: Threads + Wait + Sync>(
     )
 }
 
-/// The keeper and the jobs at once, until all jobs have ended.
+/// Runs the keeper and the jobs at once, until all jobs have ended.
 fn run_both<J: Job + Send + Drop, C: Clock + Send + Drop, R: Threads + Wait + Sync>(
     rt: &R,
     keeper: Keeper,
@@ -150,7 +150,7 @@ fn run_both<J: Job + Send + Drop, C: Clock + Send + Drop, R: Threads + Wait + Sy
     )
 }
 
-/// A job for each client, run at once with the keeper. What comes back has kept the rings.
+/// Runs a job for each client, at once with the keeper. What comes back has kept the rings.
 pub fn run_jobs<J: Job + Send + Drop, C: Clock + Send + Drop, R: Threads + Wait + Sync>(
     rt: &R,
     alloc: Global,

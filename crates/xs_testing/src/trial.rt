@@ -1,4 +1,4 @@
-//! A desk with all its clients, in one hand.
+//! A desk with all its clients.
 ghost use Rattle.std.specs.Prelude.{◌≡◌, List, [], ◌∷◌, ◌++◌, IfOk, IfSome};
 ghost use Rattle.xs_desk.specs.Callers.{Caller, AreEndsOfLanes};
 
@@ -14,7 +14,7 @@ use xs_desk::{
 };
 use xs_keys::Clock;
 
-/// A keeper and its clients. Contracts see how many clients there are.
+/// A keeper and its clients. Contracts see the number of clients.
 #[derive(Drop)]
 pub struct Trial {
     keeper: Keeper,
@@ -33,7 +33,7 @@ impl Model for Trial {
     ghost invariant = { λ t. AreEndsOfLanes t.keeper.lanes t.clients.items };
 }
 
-/// Room for so many, asked for once more where memory was refused.
+/// Room for `count` ends, taken with a second try if memory was refused.
 fn room(alloc: Global, count: usize) -> Result<Vec<Ended>, AllocError>
     ensures { IfOk result (λ ended. ended.items ≡ []) }
 {
@@ -75,7 +75,7 @@ fn with_end(ended: Vec<Ended>, client: Client) -> Option<Vec<Ended>>
     }
 }
 
-/// Tries to close a desk, an end of which is missing.
+/// Tries to close a desk of which an end is missing.
 fn refused(alloc: Global, keeper: Keeper, ended: Vec<Ended>) -> Option<(Keeper, Vec<Ended>)>
     requires { AreEndsOfLanes keeper.lanes ended.items }
     ensures { IfSome result (λ r. (r.0 ≡ keeper) × (r.1.items ≡ ended.items)) }
@@ -123,7 +123,7 @@ impl Trial {
         client.take()
     }
 
-    /// Submits a command and gives the answer to it, in one turn.
+    /// Submits a command and returns the answer to it, in one turn.
     pub fn call<C: Clock>(&mut self, lane: usize, clock: &mut C, command: Command) -> Option<Answer>
         requires { IsWellFormed command }
     {
@@ -154,7 +154,7 @@ impl Trial {
         self.keeper.waker()
     }
 
-    /// Closes the desk, and tries once more where memory was refused.
+    /// Closes the desk, with a second try if memory was refused.
     pub fn close(self, alloc: Global) -> Option<Summary> {
         let Trial { keeper, clients } = self;
         let Ok(ended) = finished(alloc, clients) else {
@@ -167,7 +167,7 @@ impl Trial {
         }
     }
 
-    /// Tries to close a desk of two lanes with the end of the last one alone, and then closes it with both.
+    /// Tries to close a desk of two lanes with only the end of the last one, and then closes it with both.
     pub fn close_late(self, alloc: Global) -> Option<Summary> {
         let Trial { keeper, clients } = self;
         let (first, last) = last_two(clients)?;

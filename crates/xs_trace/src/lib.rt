@@ -1,4 +1,4 @@
-//! Lists that only clauses read.
+//! Lists that only contracts read.
 #![tactic(auto)]
 
 pub mod link;

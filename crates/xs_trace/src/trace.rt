@@ -1,12 +1,12 @@
-//! A list that only clauses read.
+//! A list that only contracts read.
 ghost use Rattle.std.specs.Prelude.{◌≡◌, [], ◌∷◌, ◌++◌};
 
 use crate::link::Link;
 use std::marker::Model;
 use std::snapshot::Snapshot;
 
-/// A list of values as clauses see them: it keeps none of them, and takes no memory but a byte. So a value can say what
-/// it was given, though that is gone.
+/// A list of values as contracts see it: it stores none of them, and takes one byte of memory. So a contract can refer
+/// to what a value was given, after that is dropped.
 #[derive(Drop)]
 #[cycle(trace)]
 pub struct Trace<T> {
@@ -30,14 +30,14 @@ impl<T> Model for Trace<T> {
 }
 
 impl<T> Trace<T> {
-    /// Nothing.
+    /// An empty trace.
     pub fn new() -> Self
         ensures { result ≡ [] }
     {
         Self { last: Link::First }
     }
 
-    /// Puts an item behind the others.
+    /// Appends an item.
     pub fn add(&mut self, item: &T)
         ensures { self.new ≡ self.old ++ item.now ∷ [] }
     {
@@ -45,7 +45,7 @@ impl<T> Trace<T> {
         self.last = Link::Next(before, Snapshot::of(item));
     }
 
-    /// Puts items behind the others, in their order.
+    /// Appends items, in their order.
     pub fn add_all(&mut self, items: &[T])
         ensures { self.new ≡ self.old ++ items.now }
     {

@@ -23,7 +23,7 @@ use Rattle.xs_work.specs.declared.ahead.AheadFault.{AheadFault}
 use Rattle.xs_work.specs.declared.ahead.AheadFault.TheVariants as fault
 use Rattle.xs_work.specs.Ahead.{Calls, IsAheadAfter, BreaksOff, IsLost, HasCauseOf, AheadEnds, AheadFails, ServesAhead, IsDone}
 
--- a part of the front of what is owed is sent
+-- a part of the front of the unsent bytes is sent
 pub part-sent : (manner : Manner) (read : List ℕ) (asked : List Command) (got : List Reply) (sent before : List ℕ) (session : Session) (count : ℕ) → count < length session.owed.piece
     → SessionIsAfter manner read asked got (sent ++ before) session → BreaksOff manner read asked got sent (before ++ take count session.owed.piece) session
 part-sent manner read asked got sent before session count few s =
@@ -40,7 +40,7 @@ part-sent manner read asked got sent before session count few s =
       some = grind (arith, length-append, some);
     }
 
--- behind what was sent before
+-- after what was sent before
 pub breaks-later : (manner : Manner) (read : List ℕ) (asked : List Command) (got : List Reply) (sent went more : List ℕ) (session : Session) → BreaksOff manner read asked got (sent ++ went) more session
     → BreaksOff manner read asked got sent (went ++ more) session
 breaks-later manner read asked got sent went more session b = record {
@@ -197,14 +197,14 @@ module _ (first now : Caller) (manner : Manner) (read sent : List ℕ) where
     closed = λ other. closed;
   }
 
-  -- what a read comes to
+  -- the result of a read
   pub read-so : {A : Type 0} (result : Result A (Result Ending AheadFault)) (left : Passing) (over broken unwritten : Bool) (asked : List Command) (session : Session) → IsAheadAfter first now manner read asked asked sent session → IsDone session.places (bytes_left session.owed)
       → IfErr result (λ end. AheadEnds end session.ended session.requests session.places (bytes_left session.owed)) → IfErr result (λ end. HasCauseOf end left over broken unwritten)
       → MatchResult result (λ _. (all : List Command) × IsAheadAfter first now manner read all all sent session) (λ end. ServesAhead end first now manner read sent × HasCauseOf end left over broken unwritten)
   read-so (Ok x) left over broken unwritten asked session a done ends cause = (asked, a)
   read-so (Err end) left over broken unwritten asked session a done ends cause = (serves-done end asked session a done ends, cause)
 
--- the answers that were waited for have come once the writer had failed, or the lane is gone
+-- the answers that were waited for have come after the writer failed, or the lane is gone
 pub gives-up : (first old new : Caller) (manner : Manner) (read : List ℕ) (asked put : List Command) (sent more : List ℕ) (was is : Session) (got : List Reply) (wrong : AheadFault) → BreaksOff manner read asked got sent more was → Calls first old put got
     → ((s : List ℕ) → IsAheadAfter first old manner read asked put s was → IsAheadAfter first new manner read asked put s is)
     → ((wrong ≡ fault.Write) × (has_open is.places ≡ false) × (length is.places ≤ 32)) ⊎ (wrong ≡ fault.Port) → is.owed ≡ was.owed → AheadFails wrong first new manner read asked put (sent ++ more)
@@ -232,7 +232,7 @@ gives-up first old new manner read asked put sent more was is got wrong b calls 
         closed = λ other. absurd (other refl);
       })
 
--- by a fault of the writer, or since nobody answers
+-- because the writer failed, or because the keeper is gone
 pub lost-is : {X Y : Type 0} (wrong : AheadFault) (unwritten : Bool) → ((wrong ≡ fault.Write) × X × Y) ⊎ (wrong ≡ fault.Port) → unwritten ≡ true → IsLost wrong unwritten
 lost-is wrong unwritten (inl (write, x, y)) failed = subst (λ (w : AheadFault). IsLost w unwritten) (sym write) failed
 lost-is wrong unwritten (inr port) failed = subst (λ (w : AheadFault). IsLost w unwritten) (sym port) tt

@@ -37,7 +37,7 @@ serves-more manner lost first mid last (other ∷ given) [] one back result none
 serves-more manner lost first mid last (other ∷ given) (came ∷ returned) one back result (ended, next, fine, new, begun, rest) answered fresh served =
     (ended, next, fine, new, begun, serves-more manner lost next mid last given returned one back result rest answered fresh served)
 
--- where all were answered, the lane may be lost later
+-- if all were answered, the lane may be lost later
 serves-lost : (manner : Manner) (first last : Caller) (given returned : List Seen) → ServesEach manner false first given returned last → ServesEach manner true first given returned last
 serves-lost manner first last [] [] is = is
 serves-lost manner first last [] (back ∷ returned) is = absurd is
@@ -113,7 +113,7 @@ works-side faulty first last before now w = each-side before.manner faulty first
 pub works-none : (client : Caller) (gate : GateTrace) → Works true client client gate gate
 works-none client gate = record { served = gate-lost client client gate gate (gate-none client gate); over = λ n. absurd cc }
 
--- no bytes aren't a request, and no fault stands in them
+-- the empty list of bytes is no request, and has no fault
 none-spelled : (front rest : List ℕ) (words : List (List ℕ)) → [] ≡ front ++ rest → Spells front words → ⊥
 none-spelled front rest words none s = elim s.spelled [
   | inl is ↦ omega (arith, ap length none, length-append front rest, ap length is)
@@ -131,7 +131,7 @@ none-wrong : (wrong : ProtocolFault) → FaultIn [] wrong → ⊥
 none-wrong wrong (inl f) = none-headed wrong f
 none-wrong wrong (inr f) = omega (arith, ap length f.whole)
 
--- a connection that nothing was read of, since there is no memory for it
+-- a connection of which nothing was read, because there is no memory for it
 first-standing : (manner : Manner) → (standing : Standing) × IsFirst manner standing
 first-standing Plain = (record { id = 0; name = []; is_allowed = true; transaction = Closed }, refl)
 first-standing (Full wanted) = (record { id = 0; name = []; is_allowed = not (is_some wanted); transaction = Closed }, refl)
@@ -153,7 +153,7 @@ serves-none manner client = record {
   ends = ((refl, ([], refl, (none-spelled, none-wrong))), (refl, refl));
 }
 
--- a connection that ended out of memory, whose client was told
+-- a connection that ended out of memory, which was reported to its client
 pub serves-told : (manner : Manner) (first last : Caller) (read sent : List ℕ) (given back : Seen) (held : Passing) → Consumes given.rest back.rest read → Appends given.held held sent → ServesAhead (Err fault.Memory) first last manner read sent
     → Says no_memory held back.held back.unwritten → ServesOne manner (Err fault.Memory) first last given back
 serves-told manner first last read sent given back held consumes appends served says = record {
@@ -167,7 +167,7 @@ serves-told manner first last read sent given back held consumes appends served 
   is_told = (says.1, says.2, says.4);
 }
 
--- a connection that ended so that nothing was told
+-- a connection that ended so that nothing was reported
 pub serves-untold : (manner : Manner) (result : Result Ending AheadFault) (first last : Caller) (read sent : List ℕ) (given back : Seen) → result ≢ Err fault.Memory → Consumes given.rest back.rest read → Appends given.held back.held sent
     → ServesAhead result first last manner read sent → HasCauseOf result back.rest back.ended back.unread back.unwritten → ServesOne manner result first last given back
 serves-untold manner result first last read sent given back other consumes appends served cause = record {

@@ -36,7 +36,7 @@ sides-more clients ends client end same sides keeps i e at = elim (snoc-cases en
   )
 ]
 
--- client i of a new desk bears the number of its lane
+-- client i of a new desk has the number of its lane
 new-number : (k depth : ℕ) (lanes : List LaneOf) (clients : List Caller) → AreNew k depth lanes clients → (i : ℕ) (client : Caller) → slice_get clients i ≡ Some client → client.lane ≡ k + i
 new-number k depth [] [] new i client at = absurd (cc)
 new-number k depth (lane ∷ lanes) [] new i client at = absurd (cc)
@@ -62,7 +62,7 @@ all-there depth lanes clients ends new sides count k below =
 pub same-count : {A B X : Type 0} (f : A → X) (g : B → X) (xs : List A) (ys : List B) → map f xs ≡ map g ys → length xs ≡ length ys
 same-count f g xs ys same = sym (length-map xs f) ∙ ap length same ∙ length-map ys g
 
--- what is amiss with as many gates as a desk may have is amiss with as few as there are
+-- what is wrong with as many gates as a desk may have is wrong with fewer
 fewer-desk : (depth : ℕ) (n : ℕ) (error : DeskError) → n ≤ 64 → IsDeskError 1024 n depth error → IsDeskError 64 n depth error
 fewer-desk depth n desk.Lanes few (inl none) = inl none
 fewer-desk depth n desk.Lanes few (inr many) = absurd (omega (arith, few, many))
@@ -81,7 +81,7 @@ fewer_lanes depth n work.Memory few is = ((is.0.0, few), is.1)
 pub work-none : WorkEach false [] [] [] []
 work-none i end at = absurd (cc)
 
--- of a worker that may have had a fault less is said
+-- less is required of a worker that may have had a fault
 works-loose : (faulty : Bool) (first last : Caller) (before now : GateTrace) → Works faulty first last before now → Works true first last before now
 works-loose true first last before now w = w
 works-loose false first last before now w = record { served = gate-lost first last before now w.served; over = λ no. absurd cc }
@@ -142,7 +142,7 @@ work-and (Ok done) (Err fault) clients ends before now client end first last cs 
 work-and (Err fault) other clients ends before now client end first last cs bs ns each works =
     work-more true clients ends before now client end first last cs bs ns each (works-loose (is_err other) client end first last works)
 
--- one more was joined, whose end and gate are put behind the others
+-- one more was joined, whose end and gate are put after the others
 pub joined-more : {G : Type 0} (trace : G → GateTrace) (one other result : Result ⊤ WorkerFault) (clients ends later : List Caller) (before : List GateTrace) (gates after : List G) (client end : Caller) (first : GateTrace) (gate : G)
     → length clients ≡ length ends → length before ≡ length ends → length gates ≡ length ends → later ≡ ends ++ end ∷ [] → after ≡ gates ++ gate ∷ [] → result ≡ result_and one other
     → WorkEach (is_err one) clients ends before (map trace gates) → Works (is_err other) client end first (trace gate)
@@ -156,7 +156,7 @@ joined-more trace one other result clients ends later before gates after client 
     (subst (λ (es : List Caller). WorkEach (is_err (result_and one other)) firsts es befores (map trace after)) (sym grown)
     (subst (λ (ns : List GateTrace). WorkEach (is_err (result_and one other)) firsts (ends ++ end ∷ []) befores ns) (sym now) more))
 
--- so it is where there is a worker for each client of a new desk and each gate
+-- the same if there is a worker for each client of a new desk and each gate
 pub served-pool : {W G : Type 0} (client_of : W → Caller) (gate_of : W → G) (trace : G → GateTrace) (faulty : Bool) (depth : ℕ) (lanes : List LaneOf) (clients ends : List Caller) (gates later : List G)
     (workers : List W) → AreNew 0 depth lanes clients → length lanes ≡ length gates → map client_of workers ≡ clients → map gate_of workers ≡ gates → length ends ≡ length workers → length later ≡ length workers
     → WorkEach faulty (map client_of workers) ends (map (λ w. trace (gate_of w)) workers) (map trace later) → AreServed faulty ends (map trace gates) (map trace later)
@@ -187,7 +187,7 @@ closed-desk faulty desk ends before now summary are lanes history count served =
 pub same-traces : {A B G : Type 0} (trace : G → GateTrace) (f : A → G) (h : B → G) (xs : List A) (ys : List B) → map f xs ≡ map h ys → map (λ x. trace (f x)) xs ≡ map (λ y. trace (h y)) ys
 same-traces trace f h xs ys same = sym (map-of-map trace f xs) ∙ ap (map trace) same ∙ map-of-map trace h ys
 
--- what was told of the first of a list, and what the others tell
+-- what is known of the first of a list, and of the others
 pub none-told : {H X : Type 0} (f : H → X) (rest all : List H) → rest ≡ all → [] ++ map f rest ≡ map f all
 none-told f rest all is = ap (map f) is
 

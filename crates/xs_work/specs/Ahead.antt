@@ -20,8 +20,8 @@ use Rattle.xs_session.specs.Session.{IsAfter, SessionIsAfter, Waits}
 use Rattle.xs_work.specs.declared.ahead.AheadFault.{AheadFault}
 use Rattle.xs_work.specs.declared.ahead.AheadFault.TheVariants as fault
 
--- since it was as at first these commands were submitted through the lane, in this order, and its answers that were
--- taken have these replies, in this order
+-- since the first state of the client these commands were submitted through the lane, in this order, and its answers
+-- that were taken have these replies, in this order
 pub record Calls (first now : Caller) (put : List Command) (got : List Reply) : Type 0 where
   pub answers : List Answer
   pub got_is : got ≡ map (λ a. a.reply) answers
@@ -35,11 +35,11 @@ pub record IsAheadAfter
   pub after : SessionIsAfter manner read asked got sent session
   pub calls : Calls first now put got
 
--- a text that lacks some bytes of the whole one
+-- a text without some bytes at its end
 abbrev pub IsPart : List ℕ → List ℕ → Type 0
 IsPart part whole = (more : List ℕ) × (whole ≡ part ++ more) × (0 < length more)
 
--- behind the bytes that were sent before, these were, and some of what is owed wasn't
+-- after the bytes that were sent before, these were sent, and some unsent bytes are left
 pub record BreaksOff
     (manner : Manner) (read : List ℕ) (asked : List Command) (got : List Reply) (sent more : List ℕ) (session : Session)
     : Type 0 where
@@ -51,11 +51,11 @@ pub record BreaksOff
   pub owed_is : bytes_left session.owed ≡ part ++ rest
   pub some : 0 < length rest
 
--- nothing is waited for or owed
+-- nothing is waited for or unsent
 abbrev pub IsDone : List Place → List ℕ → Type 0
 IsDone places owed = (places ≡ []) × (owed ≡ [])
 
--- How a connection ends. If the writer fails, some of what is owed wasn't sent, and at most 32 answers weren't begun.
+-- How a connection ends. If the writer fails, some bytes are unsent, and at most 32 answers weren't begun.
 abbrev pub AheadEnds : Result Ending AheadFault → Option Ending → Held → List Place → List ℕ → Type 0
 AheadEnds (Ok ending.Closed) ended held places owed = (ended ≡ None) × (held ≡ Ok []) × IsDone places owed
 AheadEnds (Ok ending.Cut) ended held places owed =
@@ -67,7 +67,7 @@ AheadEnds (Err fault.Write) ended held places owed =
     (has_open places ≡ false) × (0 < length owed) × (length places ≤ 32)
 AheadEnds (Err fault.Port) ended held places owed = Unit {0}
 
--- what a reader that has these bytes left, and a writer, tell of how a connection ended
+-- what is known, from a reader that has these bytes left and from a writer, of how a connection ended
 abbrev pub HasCauseOf : Result Ending AheadFault → Passing → Bool → Bool → Bool → Type 0
 HasCauseOf (Ok ending.Closed) rest ended broken unwritten = IsAtEnd rest × (ended ≡ true)
 HasCauseOf (Ok ending.Cut) rest ended broken unwritten = IsAtEnd rest × (ended ≡ true)
@@ -75,7 +75,7 @@ HasCauseOf (Err fault.Read) rest ended broken unwritten = broken ≡ true
 HasCauseOf (Err fault.Write) rest ended broken unwritten = unwritten ≡ true
 HasCauseOf _ rest ended broken unwritten = Unit {0}
 
--- the writer failed, or nobody answers
+-- the writer failed, or the keeper is gone
 abbrev pub IsLost : AheadFault → Bool → Type 0
 IsLost fault.Write unwritten = unwritten ≡ true
 IsLost fault.Port unwritten = Unit {0}
@@ -96,9 +96,9 @@ pub record AheadFails
   pub ends : AheadEnds (Err wrong) ended held places owed
   pub closed : wrong ≢ fault.Port → has_open places ≡ false
 
--- A whole connection: what its requests ask was submitted through the lane, in order, each once and nothing else; the
--- replies are those of the answers that were taken meanwhile, in order; and what was sent is their texts, with the
--- errors in their places. But where nobody answers any more, as many answers were taken as were asked.
+-- A complete connection: what its requests ask was submitted through the lane, in order, each once and nothing else;
+-- the replies are those of the answers that were taken meanwhile, in order; and what was sent is their texts, with the
+-- errors in their places. Unless the keeper is gone, as many answers were taken as commands were asked.
 pub record ServesAhead
     (result : Result Ending AheadFault) (first now : Caller) (manner : Manner) (read sent : List ℕ) : Type 0 where
   pub asked : List Command

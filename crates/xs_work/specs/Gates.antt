@@ -3,8 +3,8 @@ use Rattle.std.specs.Prelude.{◌≡◌, ℕ, Bool, true, false, List, [], ◌�
 use Rattle.xs_io.specs.Passing.{Passing}
 use Rattle.xs_session.specs.declared.manner.Manner.{Manner}
 
--- a connection: the bytes that have passed through its reader and its writer, and those that are left or held, where
--- they are told; whether the end of the input was met; and whether the reader and the writer have failed
+-- a connection: the bytes that have passed through its reader and its writer, and those that are left or held, if they
+-- are known; whether the end of the input was reached; and whether the reader and the writer have failed
 pub record Seen : Type 0 where
   pub rest : Passing
   pub ended : Bool
@@ -27,27 +27,27 @@ abbrev pub all_seen :
 all_seen rest ended unread held unwritten ones =
     map (λ one. seen (rest one.0) (ended one.0) (unread one.0) (held one.1) (unwritten one.1)) ones
 
--- a gate: which commands its connections are answered by their sessions; the connections that it gave, each as it was
--- then; those that came back, each as it was then; and whether it gives no further one
+-- a gate: which commands of its connections the sessions answer themselves; the connections that it gave, each in the
+-- state of that time; those that came back, each in the state of that time; and whether it gives no further one
 pub record GateTrace : Type 0 where
   pub manner : Manner
   pub given : List Seen
   pub returned : List Seen
   pub is_over : Bool
 
--- one that has given nothing yet
+-- a gate that has given nothing yet
 abbrev pub new_gate : Manner → GateTrace
 new_gate manner = record { manner = manner; given = []; returned = []; is_over = false }
 
--- one whose connections are answered so
+-- with this manner
 abbrev pub with_manner : Manner → GateTrace → GateTrace
 with_manner manner gate = record gate { manner = manner }
 
--- this one is given too
+-- this connection is given too
 abbrev pub with_given : GateTrace → Seen → GateTrace
 with_given gate one = record gate { given = gate.given ++ one ∷ [] }
 
--- this one came back too
+-- this connection came back too
 abbrev pub with_returned : GateTrace → Seen → GateTrace
 with_returned gate one = record gate { returned = gate.returned ++ one ∷ [] }
 

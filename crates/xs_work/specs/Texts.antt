@@ -1,4 +1,4 @@
--- What a writer takes of a text.
+-- A text that a writer takes.
 use Rattle.std.specs.Prelude.{◌≡◌, ℕ, ◌⊎◌, Bool, true, List, [], ◌++◌}
 use Rattle.xs_io.specs.Passing.{Passing, Appends}
 

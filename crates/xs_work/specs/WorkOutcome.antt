@@ -1,4 +1,4 @@
--- What work over gates comes to.
+-- The result of work over gates.
 use Rattle.std.specs.Prelude.{◌≡◌, ◌⊎◌, ℕ, Bool, false, List, [], length, slice_get, Some, All}
 use Rattle.xs_bytes.specs.SortedMap.{empty}
 use Rattle.xs_keys.specs.Headline.{RunsOn}
@@ -22,7 +22,7 @@ abbrev pub IsUnused : Caller → Type 0
 IsUnused client = (client.submitted ≡ []) × (client.taken ≡ [])
 
 -- Each end is of the lane of its place. The gate of that place was served through that lane, from the lane's first call
--- to its last, and to its end unless a worker had a fault. Each gate is there, and came back.
+-- to its last, and to its end unless a worker had a fault. No gate is missing: each came back.
 pub record AreServed (faulty : Bool) (ends : List Caller) (before now : List GateTrace) : Type 0 where
   pub each : (i : ℕ) (end : Caller) → slice_get ends i ≡ Some end
       → (client : Caller) × (first last : GateTrace) × (end.lane ≡ i) × IsUnused client
@@ -32,8 +32,8 @@ pub record AreServed (faulty : Bool) (ends : List Caller) (before now : List Gat
 
 -- A desk was closed that has a lane for each gate. The ends that came back are sides of its lanes, each gate was served
 -- through its lane, and to its end unless a worker had a fault, and the summary has a part for each lane, which counts
--- what its two sides tell; the calls that were served, in the order of their places, are the history of the desk; and
--- they are a run from the empty keyspace on, which gave these replies and left the summary's keyspace.
+-- the calls and answers of its two sides; the calls that were served, in the order of their places, are the history of
+-- the desk; and they are a run from the empty keyspace on, which gave these replies and left the summary's keyspace.
 pub record IsClosed (faulty : Bool) (before now : List GateTrace) (summary : Summary) : Type 0 where
   pub desk : Desk
   pub ends : List Caller
@@ -45,13 +45,13 @@ pub record IsClosed (faulty : Bool) (before now : List GateTrace) (summary : Sum
   pub is_history : IsHistory history desk
   pub runs : RunsOn empty (events_of history) (replies_of history) summary.keyspace
 
--- a desk was closed that had so many gates, none of which had given a connection before
+-- a desk was closed that had this many gates, none of which had given a connection before
 abbrev pub HasServed : Manner → ℕ → Type 0
 HasServed manner n =
     (before now : List GateTrace) × (summary : Summary) × (length before ≡ n) × All (λ gate. gate ≡ new_gate manner) before
     × IsClosed false before now summary
 
--- what the fault of a worker is for work
+-- the fault of work for the fault of a worker
 abbrev pub work_fault : WorkerFault → WorkFault
 work_fault worker.Start = fault.Start
 work_fault worker.Gate = fault.Gate
@@ -61,7 +61,7 @@ work_fault worker.Lane = fault.Lane
 abbrev pub IsOfWorker : WorkFault → Type 0
 IsOfWorker why = (why ≡ fault.Gate) ⊎ (why ≡ fault.Lane)
 
--- there was no desk for so many lanes of so many places; or there was one, and something else was amiss
+-- there was no desk for this many lanes with this many places; or there was one, and something else failed
 abbrev pub IsWorkFault : ℕ → ℕ → ℕ → WorkFault → Type 0
 IsWorkFault most n depth (fault.Desk error) = IsDeskError most n depth error
 IsWorkFault most n depth fault.Start = IsLaneCount most n × IsDepth depth
@@ -70,7 +70,7 @@ IsWorkFault most n depth fault.Lane = IsLaneCount most n × IsDepth depth
 IsWorkFault most n depth fault.Close = ⊥
 IsWorkFault most n depth fault.Memory = IsLaneCount most n × IsDepth depth
 
--- the same of work with a log, which a failure of the log may end too
+-- the same for work with a log, which a failure of the log may end too
 abbrev pub IsLoggedEnd : ℕ → ℕ → ℕ → LoggedEnd → Type 0
 IsLoggedEnd most n depth (logged.Work fault) = IsWorkFault most n depth fault
 IsLoggedEnd most n depth (logged.Log kept) = IsLaneCount most n × IsDepth depth

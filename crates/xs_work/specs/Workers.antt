@@ -11,18 +11,19 @@ use Rattle.xs_work.specs.declared.ahead.AheadFault.TheVariants as fault
 use Rattle.xs_work.specs.Ahead.{ServesAhead, HasCauseOf}
 use Rattle.xs_work.specs.Gates.{Seen, GateTrace, AreFresh}
 
--- what a client is told for whom there is no memory
+-- the error for a client for which there is no memory
 abbrev pub no_memory : List ℕ
 no_memory = codes "-OOM out of memory" ++ crlf
 
--- the client of a connection that ended out of memory was told so, unless the writer failed; no other one was
+-- out of memory was reported to the client of a connection that ended so, unless the writer failed; nothing was
+-- reported to any other
 abbrev pub IsTold : Result Ending AheadFault → List ℕ → Bool → Type 0
 IsTold (Err fault.Memory) told unwritten =
     (rest : List ℕ) × (no_memory ≡ told ++ rest) × ((rest ≡ []) ⊎ (unwritten ≡ true))
 IsTold _ told unwritten = told ≡ []
 
--- a connection, from what was given to what came back: these bytes were read of it, and what they ask was submitted
--- through the lane; the answers were sent; and it ended so, for a cause that its reader and writer tell
+-- a connection, from what was given to what came back: these bytes were read from it, and what they ask was submitted
+-- through the lane; the answers were sent; and it ended so, for a cause that its reader and its writer confirm
 pub record ServesOne
     (manner : Manner) (result : Result Ending AheadFault) (first last : Caller) (given back : Seen) : Type 0 where
   pub read : List ℕ

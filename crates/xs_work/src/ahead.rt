@@ -31,7 +31,7 @@ pub enum AheadFault {
     /// The reader failed.
     #[error("reading failed")]
     Read,
-    /// The writer failed. What was asked is executed, and some of the answers aren't sent whole.
+    /// The writer failed. What was asked is executed, and some of the answers aren't sent completely.
     #[error("writing failed")]
     Write,
     /// Out of memory.
@@ -42,7 +42,7 @@ pub enum AheadFault {
     Port,
 }
 
-/// Hands in the next answer of the lane, if one is waited for and has come, and says so.
+/// Hands in the next answer of the lane, if one is waited for and has come. Returns whether it did.
 fn take_answer(session: &mut Session, client: &mut Client) -> bool
     ensures after { (first : Caller) (manner : Manner) (read : List ℕ) (asked put : List Command) (sent : List ℕ) →
         IsAheadAfter first client.old manner read asked put sent session.old →
@@ -90,7 +90,7 @@ fn receive<P: Pause, T: Wait>(
     unreachable!()
 }
 
-/// Submits a call that is asked, which doesn't wait if EXEC let it go. While the lane has no room for it, an answer is
+/// Submits a call that is asked. It must not wait if EXEC released it. While the lane has no room for it, an answer is
 /// taken first.
 fn submit<P: Pause, T: Wait>(
     rt: &T,
@@ -124,7 +124,7 @@ fn submit<P: Pause, T: Wait>(
     unreachable!()
 }
 
-/// Sends what is owed, piece by piece.
+/// Sends the unsent bytes, piece by piece.
 pub fn send_owed<W: Sink>(writer: &mut W, session: &mut Session) -> Result<(), AheadFault>
     ensures exact { (more : List ℕ) × Appends (W.held writer.old) (W.held writer.new) more × MatchResult result
         (λ _. more ≡ bytes_left session.old.owed) (λ _. IsPart more (bytes_left session.old.owed)) }
@@ -148,8 +148,8 @@ pub fn send_owed<W: Sink>(writer: &mut W, session: &mut Session) -> Result<(), A
     Ok(())
 }
 
-/// Gathers the answers that are there, in their order, up to the first that is waited for, as far as there is room. It
-/// says whether one was there.
+/// Gathers the answers that are there, in their order, up to the first that is waited for, as far as there is room.
+/// Returns whether one was there.
 fn gather_answers(session: &mut Session) -> bool
     ensures after { (manner : Manner) (read : List ℕ) (asked : List Command) (got : List Reply) (sent : List ℕ) →
         SessionIsAfter manner read asked got sent session.old → SessionIsAfter manner read asked got sent session.new }
@@ -194,8 +194,8 @@ fn send_ready<W: Sink>(writer: &mut W, session: &mut Session) -> Result<(), Ahea
     Ok(())
 }
 
-/// Takes the answers that are waited for, once the writer has failed, so that the next connection gets none of them. It
-/// says how the connection ends.
+/// Takes the answers that are waited for after the writer has failed, so the next connection gets none of them. Returns
+/// how the connection ends.
 fn give_up<P: Pause, T: Wait>(
     rt: &T,
     session: &mut Session,
@@ -221,7 +221,7 @@ fn give_up<P: Pause, T: Wait>(
     unreachable!()
 }
 
-/// Sends what is there before it waits for an answer.
+/// Sends the answers that are there before it waits for one.
 fn send_before<W: Sink, P: Pause, T: Wait>(
     rt: &T,
     session: &mut Session,
@@ -246,7 +246,8 @@ fn send_before<W: Sink, P: Pause, T: Wait>(
     }
 }
 
-/// Gathers the answers that are there, and waits for the next one until they are to be sent. It says whether it has come.
+/// Gathers the answers that are there, and waits for the next one until they are to be sent. Returns whether it has
+/// come.
 fn receive_briefly<P: Pause, T: Wait>(
     rt: &T,
     session: &mut Session,
@@ -278,8 +279,8 @@ fn receive_briefly<P: Pause, T: Wait>(
     unreachable!()
 }
 
-/// Takes an answer if one is waited for, and says so; else all that is owed is sent. It waits long only once what is
-/// there is sent.
+/// Takes an answer if one is waited for, and returns whether it did; else all unsent bytes are sent. It waits long only
+/// after what is there is sent.
 fn settle<W: Sink, P: Pause, T: Wait>(
     rt: &T,
     session: &mut Session,
@@ -322,7 +323,7 @@ fn settle<W: Sink, P: Pause, T: Wait>(
 }
 
 /// Makes room for further answers: those that are there are gathered; if none is, it settles. If nothing is left to do,
-/// the session waits for memory, and others go on meanwhile.
+/// the session waits for memory, and other threads go on meanwhile.
 fn make_room<W: Sink, P: Attend, T: Wait>(
     rt: &T,
     session: &mut Session,
@@ -350,7 +351,7 @@ fn make_room<W: Sink, P: Attend, T: Wait>(
     }
 }
 
-/// Reads bytes into a session that waits for them. Its end is the error.
+/// Reads bytes into a session that waits for them. If the connection ends, its end is the error.
 fn read_on<R: Source>(
     reader: &mut R,
     session: &mut Session,
@@ -375,7 +376,7 @@ fn read_on<R: Source>(
     }
 }
 
-/// What a worker tells of its server.
+/// What a worker reports about its server.
 #[derive(Drop)]
 struct Informant<'a, P> {
     worker: &'a P,
@@ -387,7 +388,8 @@ impl<P: Attend> Inform for Informant<'_, P> {
     }
 }
 
-/// If a password is wanted, lets the client take its time once it has given it, and no longer if RESET took it away.
+/// If a password is required, removes the client's deadline once it has given it, and sets one again if RESET has taken
+/// the permission away.
 fn greet<P: Attend>(manner: &Manner, session: &Session, pause: &P) {
     if !matches!(manner, Manner::Full(Some(_))) {
         return;
@@ -399,8 +401,8 @@ fn greet<P: Attend>(manner: &Manner, session: &Session, pause: &P) {
     }
 }
 
-/// One step of a connection: a request is taken, or an answer, or all that is owed is sent and more is read. Its end is
-/// the error.
+/// One step of a connection: a request is taken, or an answer, or all unsent bytes are sent and more is read. If the
+/// connection ends, its end is the error.
 fn step<R: Source, W: Sink, P: Attend, T: Wait>(
     rt: &T,
     manner: &Manner,

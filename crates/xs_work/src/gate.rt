@@ -1,4 +1,4 @@
-//! Where the connections of a worker come from.
+//! The source of a worker's connections.
 use std::sync::Wait;
 use thiserror::Error;
 use xs_io::{Sink, Source};
@@ -17,23 +17,23 @@ pub trait Gate {
     ghost use Rattle.std.specs.Prelude.{◌≡◌, MatchResult, MatchOption};
     ghost use Rattle.xs_work.specs.Gates.{GateTrace, AreFresh, seen, with_given, with_returned, at_end};
 
-    /// Where a connection's requests come from.
+    /// The reader of a connection's requests.
     type Reader: Source + Send + Drop;
 
-    /// Where its replies go.
+    /// The writer of its replies.
     type Writer: Sink + Send + Drop;
 
     /// The connections that it gave and those that came back, and whether it gives no further one.
     ghost trace: { Self → GateTrace };
 
-    /// Which commands its connections are answered by their sessions.
+    /// Which commands of its connections the sessions answer themselves.
     fn manner(&self) -> Manner
         ensures { result ≡ (trace self.now).manner };
 
-    /// The next connection, or None after the last. It may wait. Nothing of another connection is left in it.
+    /// The next connection, or None after the last. It may wait. The connection contains nothing of another one.
     ///
     /// # Errors
-    /// `Refused`. The worker asks for no further one.
+    /// `Refused`. The worker must not ask for a further one.
     fn open_next<R: Wait>(
         &mut self,
         rt: &R,

@@ -14,8 +14,8 @@ use xs_keys::Clock;
 /// A keeper in its thread.
 pub type KeeperThread<J> = PromisedHandle<Keeper<J>, SameRings<J>>;
 
-/// Keeps what was noted, and hands out the answers that wait for that. If there were none, and the last turn served
-/// nobody, it waits. It says whether the keeper goes on.
+/// Keeps what was noted, and hands out the answers that wait for that. If there were none, and the last turn served no
+/// call, it waits. Returns whether the keeper goes on.
 fn rest<J: Journal + Drop, M: KeeperMode, R: Wait>(
     rt: &R,
     keeper: &mut Keeper<J>,
@@ -38,8 +38,8 @@ fn rest<J: Journal + Drop, M: KeeperMode, R: Wait>(
     }
 }
 
-/// Serves turn after turn, until all workers have ended and nobody is left to serve, the log has failed, or there is no
-/// further place.
+/// Serves turn after turn, until all workers have ended and no call is left to serve, the log has failed, or there is
+/// no further place.
 fn keep<J: Journal + Drop, C: Clock + Drop, M: KeeperMode + Drop, R: Wait>(
     rt: &R,
     keeper: Keeper<J>,
@@ -51,7 +51,7 @@ fn keep<J: Journal + Drop, C: Clock + Drop, M: KeeperMode + Drop, R: Wait>(
 {
     let mut keeper = keeper;
     let mut clock = clock;
-    // How many calls were served since answers were last handed out.
+    // The number of calls that were served since answers were last handed out.
     let mut served: u64 = 0;
     mode.begin(&mut keeper);
     for _ in rt.forever() {
@@ -71,7 +71,7 @@ fn keep<J: Journal + Drop, C: Clock + Drop, M: KeeperMode + Drop, R: Wait>(
     keeper
 }
 
-/// Starts the keeper's thread, or gives None if it can't be started.
+/// Starts the keeper's thread. None if it can't be started.
 pub fn start_keeper<
     J: Journal + Send + Drop + 'static,
     C: Clock + Send + Drop + 'static,

@@ -3,10 +3,10 @@ use std::sync::atomic::{AtomicBool, AtomicUsize, Ordering};
 use std::sync::{Condvar, Mutex, Wait};
 use xs_desk::Waker;
 
-/// What workers are told.
+/// The state in which workers wait to begin.
 #[derive(Clone, Copy, Debug, PartialEq, Eq)]
 enum Word {
-    /// Nothing yet.
+    /// They wait.
     Wait,
     /// All threads were started.
     Begin,
@@ -14,12 +14,12 @@ enum Word {
     GiveUp,
 }
 
-/// The lifecycle of a pool of workers and their keeper. No promise rests on it.
+/// The lifecycle of a pool of workers and their keeper. No contract depends on it.
 #[derive(Drop)]
 pub struct Lifecycle {
     word: Mutex<Word>,
     told: Condvar,
-    // How many workers haven't ended.
+    // The number of workers that haven't ended.
     at_work: AtomicUsize,
     ended: AtomicBool,
     // Wakes the keeper.
@@ -27,7 +27,7 @@ pub struct Lifecycle {
 }
 
 impl Lifecycle {
-    /// Nothing is told yet to so many workers, whose keeper this wakes.
+    /// The lifecycle of this number of workers, which wait to begin. `waker` wakes their keeper.
     pub fn new(workers: usize, waker: Waker) -> Lifecycle {
         Lifecycle {
             word: Mutex::new(Word::Wait),
@@ -57,7 +57,7 @@ impl Lifecycle {
         self.waker.wake();
     }
 
-    /// A worker has ended. Behind the last one the keeper may end.
+    /// A worker has ended. After the last one the keeper may end.
     pub fn end_worker(&self) {
         if self.at_work.fetch_sub(1, Ordering::SeqCst) == 1 {
             self.end();
@@ -69,7 +69,7 @@ impl Lifecycle {
         self.ended.load(Ordering::SeqCst)
     }
 
-    /// Waits until all threads are started, and says whether the work begins.
+    /// Waits until all threads are started. Returns whether the work begins.
     pub fn wait_to_begin<R: Wait>(&self, rt: &R) -> bool {
         let word = self
             .told

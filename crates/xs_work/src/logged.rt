@@ -18,14 +18,14 @@ use xs_replay::EventLog;
 /// Why work with a log has ended.
 #[derive(Clone, Copy, Debug, PartialEq, Eq)]
 pub enum LoggedEnd {
-    /// It did not begin, or a gate refused a connection, or there was no further place.
+    /// The work did not begin, or a gate refused a connection, or there was no further place.
     Work(WorkFault),
-    /// The log has failed. So many events of this life are kept.
+    /// The log has failed. This many events of this life are kept.
     Log { kept: u64 },
 }
 
-/// Runs the keeper and the workers, each in a thread of its own, up to the end of the keeper. The workers that still
-/// wait for a connection or a request then aren't waited for. If a thread can't be started nobody is served.
+/// Runs the keeper and the workers, each in a thread of its own, up to the end of the keeper. It doesn't wait for
+/// workers that then still wait for a connection or a request. If a thread can't be started, no call is served.
 fn run_to_end_of_keeper<
     J: Journal + Send + Drop + 'static,
     G: Gate + Send + Drop + 'static,
@@ -51,9 +51,9 @@ fn run_to_end_of_keeper<
     if all { Some(keeper) } else { None }
 }
 
-/// Serves the connections of 1 to 1024 gates as `work_with` does, over a keyspace that has what a log's events have left.
-/// Before them it was the first one. An answer is handed out once the log keeps what it tells. It ends when the log fails, or no gate gives a
-/// further connection, and says why.
+/// Serves the connections of 1 to 1024 gates like `work_with`, over a keyspace with the content after a log's events.
+/// Before them the content was `first`. An answer is handed out once the log keeps the events of its call and of those
+/// before it. The work ends if the log fails, or if no gate gives a further connection. Returns why it ended.
 pub fn work_logged<
     L: EventLog + Send + Drop + 'static,
     G: Gate + Send + Drop + 'static,

@@ -1,4 +1,4 @@
-//! How the connections of gates are served: whether calls wait, and when the memory of connections is made.
+//! How the connections of gates are served: whether calls wait, and when the memory of connections is taken.
 use crate::session_memory::SessionMemory;
 use std::alloc::{AllocError, Global};
 use std::sync::Wait;
@@ -11,21 +11,23 @@ use xs_session::Tally;
 /// How often a worker without a clock yields while it waits for memory.
 const YIELDS: u32 = 1000;
 
-/// How a worker waits for answers and for memory, what it does once a client has given the password, and what it tells.
+/// How a worker waits for answers and for memory, what it does once a client has given the password, and what it
+/// reports.
 pub trait Attend: Pause {
-    /// Lets the client of the present connection take its time from now on.
+    /// Removes the deadline of the present connection's client.
     fn let_in(&self);
 
-    /// The client of the present connection has to give the password, by a deadline that begins now unless there is one.
+    /// The client of the present connection has to give the password, by a deadline that begins now unless there is one
+    /// already.
     fn ask_for_password(&self);
 
     /// Lets other threads go on for a moment.
     fn rest(&self);
 
-    /// What INFO is answered, of the sections that these words name.
+    /// The text of INFO, with the sections that these words name.
     fn inform(&self, alloc: Global, sections: &Words<'_>) -> Result<Bytes, AllocError>;
 
-    /// So much was answered by this worker.
+    /// Notes the number of answers of this worker.
     fn note(&self, tally: Tally);
 }
 
@@ -47,23 +49,23 @@ impl Attend for Idle {
     fn note(&self, _tally: Tally) {}
 }
 
-/// What a keeper does between its turns, whatever its journal is.
+/// What a keeper does between its turns, with any journal.
 pub trait KeeperMode {
     ghost use Rattle.std.specs.Prelude.{◌≡◌};
 
-    /// Comes before the keeper's first turn.
+    /// Is called before the keeper's first turn.
     fn begin<J: Journal + Drop>(&self, keeper: &mut Keeper<J>)
         ensures { keeper.new ≡ keeper.old };
 
-    /// Comes before each of its turns.
+    /// Is called before each of its turns.
     fn before_turn<J: Journal + Drop>(&self, keeper: &mut Keeper<J>)
         ensures { keeper.new ≡ keeper.old };
 
-    /// After so many calls what was noted is kept, and the answers that wait for that are handed out, though there may
-    /// be more calls.
+    /// After this many calls what was noted is kept, and the answers that wait for that are handed out, even if there
+    /// are more calls.
     fn most_held_back(&self) -> u64;
 
-    /// Waits after a turn that served nobody.
+    /// Waits after a turn that served no call.
     fn idle<J: Journal + Drop, R: Wait>(&self, rt: &R, keeper: &Keeper<J>);
 }
 
@@ -75,11 +77,11 @@ pub trait Mode<G>: KeeperMode {
     /// How the worker of this gate waits for an answer. It takes no memory.
     fn pause_of(&self, gate: &G) -> Result<Self::Pause, AllocError>;
 
-    /// The memory of the connections of the worker of this number.
+    /// The memory of the connections of the worker with this number.
     fn memory(&self, alloc: Global, number: U63) -> Result<SessionMemory, AllocError>;
 }
 
-/// No call waits, and all memory is made at the start.
+/// No call waits, and all memory is taken at the start.
 #[derive(Clone, Copy, Debug, PartialEq, Eq)]
 pub struct Bounded;
 

@@ -1,4 +1,4 @@
-//! What a gate gave and what came back, as clauses see it.
+//! The connections that a gate gave and that came back, as contracts see them.
 ghost use Rattle.std.specs.Prelude.{◌≡◌};
 ghost use Rattle.xs_session.specs.declared.manner.Manner.TheVariants.{Plain};
 ghost use Rattle.xs_work.specs.Gates.{new_gate, seen, with_given, with_returned, at_end};
@@ -8,7 +8,7 @@ use xs_io::{Sink, Source};
 use xs_trace::Trace;
 
 /// The register of a gate whose sessions answer no commands of a connection. Contracts see the connections that were
-/// given, those that came back, and whether none is given any more. It keeps none of them.
+/// given, those that came back, and whether none is given any more. It stores none of them.
 #[derive(Drop)]
 pub struct Register<R: Source + Drop, W: Sink + Drop> {
     given: Trace<(R, W)>,
@@ -31,7 +31,7 @@ impl<R: Source + Drop, W: Sink + Drop> Model for Register<R, W> {
 }
 
 impl<R: Source + Drop, W: Sink + Drop> Register<R, W> {
-    /// None was given yet. It takes no memory.
+    /// An empty register. It takes no memory.
     pub fn new() -> Self
         ensures { result ≡ new_gate Plain }
     {
@@ -42,7 +42,7 @@ impl<R: Source + Drop, W: Sink + Drop> Register<R, W> {
         }
     }
 
-    /// This connection is given.
+    /// Notes that this connection is given.
     pub fn give(&mut self, one: &(R, W))
         ensures { self.new ≡ with_given self.old (seen (R.rest one.now.0) (R.ended one.now.0) (R.broken one.now.0)
             (W.held one.now.1) (W.broken one.now.1)) }
@@ -50,7 +50,7 @@ impl<R: Source + Drop, W: Sink + Drop> Register<R, W> {
         self.given.add(one);
     }
 
-    /// This connection came back.
+    /// Notes that this connection came back.
     pub fn take_back(&mut self, one: &(R, W))
         ensures { self.new ≡ with_returned self.old (seen (R.rest one.now.0) (R.ended one.now.0) (R.broken one.now.0)
             (W.held one.now.1) (W.broken one.now.1)) }
@@ -58,7 +58,7 @@ impl<R: Source + Drop, W: Sink + Drop> Register<R, W> {
         self.returned.add(one);
     }
 
-    /// No further connection is given.
+    /// Notes that no further connection is given.
     pub fn end(&mut self)
         ensures { self.new ≡ at_end self.old }
     {

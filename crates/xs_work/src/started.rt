@@ -68,7 +68,7 @@ pub struct StartedThreads<J: Journal + Drop + 'static, G: Gate + Drop> {
     pub all: bool,
 }
 
-/// Starts a thread for the keeper and one for each worker. None if there is none for the keeper.
+/// Starts a thread for the keeper and one for each worker. None if the keeper's can't be started.
 pub fn start_threads<
     J: Journal + Send + Drop + 'static,
     G: Gate + Send + Drop + 'static,

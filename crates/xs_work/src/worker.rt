@@ -26,10 +26,10 @@ pub struct Worker<G: Drop, P: Drop> {
     pub memory: SessionMemory,
 }
 
-/// Why a worker ended before its gate came to its end.
+/// Why a worker ended before the end of its gate.
 #[derive(Clone, Copy, Debug, PartialEq, Eq, Error)]
 pub enum WorkerFault {
-    /// It did not begin, since not all threads were started.
+    /// It did not begin, because not all threads were started.
     #[error("a thread wasn't started")]
     Start,
     /// Its gate refused a connection.
@@ -49,13 +49,13 @@ pub struct Worked<G: Drop> {
     pub outcome: Result<(), WorkerFault>,
 }
 
-/// What a connection is told for which there is no memory.
+/// The error for a connection for which there is no memory.
 const NO_MEMORY: &[u8] = b"-OOM out of memory\r\n";
 
-/// Serves one connection. If it ends out of memory, its client is told.
+/// Serves one connection. If it ends out of memory, that is reported to its client.
 ///
 /// # Errors
-/// An `AheadFault`, which ends this connection alone, but for `Port`.
+/// An `AheadFault`, which ends only this connection, except `Port`.
 fn serve_one<S: Source, W: Sink, P: Attend, R: Wait>(
     rt: &R,
     manner: &Manner,
@@ -83,7 +83,7 @@ fn serve_one<S: Source, W: Sink, P: Attend, R: Wait>(
 }
 
 /// Serves the connections of a gate, one after the other, up to the last, and gives each back to the gate. The fault of
-/// a connection ends that connection alone, but if nobody answers any more there is no further one.
+/// a connection ends only that connection. If the keeper is gone, no further connection is served.
 ///
 /// # Errors
 /// `Gate` or `Lane`.
@@ -119,7 +119,7 @@ fn serve_gate<G: Gate, P: Attend, R: Wait>(
     unreachable!()
 }
 
-/// Waits for the word to begin, serves the gate, and ends the client.
+/// Waits until the work begins, serves the gate, and ends the client.
 pub fn run_worker<G: Gate + Drop, P: Attend + Drop, R: Wait>(
     rt: &R,
     worker: Worker<G, P>,

@@ -14,10 +14,10 @@ use std::thread::{Builder, Promise, PromisedHandle, Threads};
 use xs_bytes::U63;
 use xs_desk::{Client, Ended};
 
-/// How many bytes of stack a thread has: twice the deepest that was seen in use, and more.
+/// The bytes of stack of a thread: twice the deepest that was seen in use, and more.
 pub const STACK: usize = 262_144;
 
-/// What comes back is the end of this client's lane, and this gate, as the worker left both.
+/// A worker returns the end of this client's lane, and this gate, in the state in which it left both.
 #[derive(Drop)]
 pub struct SameSide<G: Gate + Drop>(pub Snapshot<Client>, pub Snapshot<G>);
 
@@ -83,8 +83,8 @@ fn start<
     }
 }
 
-/// Starts a thread for each worker, up to the first that can't be started, and says whether all were. The room for them
-/// was made before.
+/// Starts a thread for each worker, up to the first that can't be started. Returns whether all were. There has to be
+/// room for them.
 pub fn start_all<
     G: Gate + Send + Drop + 'static,
     P: Attend + Send + Drop + 'static,
@@ -114,11 +114,10 @@ pub fn start_all<
     true
 }
 
-/// Waits for the end of each worker, and gives the fault of the first that had one. The room for the ends of lanes and
-/// for the gates was made before.
+/// Waits for the end of each worker. There has to be room for the ends of lanes and for the gates.
 ///
 /// # Errors
-/// A `WorkerFault`. All ends and gates are there.
+/// A `WorkerFault`, that of the first worker that had one. No end or gate is missing.
 pub fn join_all<G: Gate + Drop, R: Threads>(
     rt: &R,
     started: Vec<WorkerThread<G>>,

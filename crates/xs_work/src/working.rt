@@ -23,7 +23,7 @@ use xs_keys::Clock;
 /// The most gates of `work`.
 const MAX_GATES: usize = 64;
 
-/// What work comes to: the desk was closed, and the gates came back.
+/// The result of work: the desk was closed, and the gates came back.
 #[derive(Drop)]
 pub struct WorkOutcome<G: Drop> {
     pub summary: Summary,
@@ -31,16 +31,16 @@ pub struct WorkOutcome<G: Drop> {
     pub gates: Vec<G>,
 }
 
-/// Why work over gates didn't come to its end.
+/// Why work over gates failed.
 #[derive(Drop)]
 pub struct WorkFailed<G: Drop> {
     pub fault: WorkFault,
-    /// What it came to all the same. It is there if the fault is that of a worker: `Gate` or `Lane`.
+    /// The result of the work all the same. It is there if the fault is that of a worker: `Gate` or `Lane`.
     pub outcome: Option<WorkOutcome<G>>,
 }
 
 impl<G: Drop> WorkFailed<G> {
-    /// A fault that left nothing.
+    /// A fault without a result.
     fn without_outcome(fault: WorkFault) -> Self
         ensures fault { result.fault ≡ fault }
         ensures outcome { result.outcome ≡ None }
@@ -62,8 +62,8 @@ struct Done<G: Drop> {
     outcome: Result<(), WorkerFault>,
 }
 
-/// Runs the keeper and the workers, each in a thread of its own, to their ends. If a thread can't be started nobody is
-/// served.
+/// Runs the keeper and the workers, each in a thread of its own, to their ends. If a thread can't be started, no call
+/// is served.
 fn run_all<
     G: Gate + Send + Drop + 'static,
     C: Clock + Send + Drop + 'static,
@@ -106,7 +106,7 @@ fn run_all<
     })
 }
 
-/// What a fault of a worker is for work.
+/// The fault of work for the fault of a worker.
 fn fault_of(fault: WorkerFault) -> WorkFault
     ensures exact { result ≡ work_fault fault }
     ensures fault { (most n depth : ℕ) → IsLaneCount most n × IsDepth depth → IsWorkFault most n depth result }
@@ -118,7 +118,7 @@ fn fault_of(fault: WorkerFault) -> WorkFault
     }
 }
 
-/// Closes the desk. All ends are there.
+/// Closes the desk. No end may be missing.
 fn conclude<G: Gate + Drop>(alloc: Global, done: Done<G>) -> Result<WorkOutcome<G>, WorkFailed<G>>
     requires ends { AreEndsOfLanes done.keeper.lanes done.ended.items }
     requires all { (k : ℕ) → k < length done.keeper.lanes → HasEndOfLane done.ended.items k }
@@ -176,7 +176,7 @@ fn open<G: Drop>(
     }
 }
 
-/// Serves the connections of 1 to 64 gates as `work_with` does. No call waits.
+/// Serves the connections of 1 to 64 gates like `work_with`. No call waits.
 ///
 /// # Errors
 /// `WorkFailed`.
@@ -205,9 +205,9 @@ pub fn work<
     work_with(rt, alloc, gates, depth, clock, Bounded)
 }
 
-/// Serves the connections of 1 to 1024 gates: each gate has a thread, which serves its connections one after the other
-/// through a lane of its own, and the keeper of the lanes has one too. When all gates have come to their ends, the desk
-/// is closed. The fault of a connection ends that connection alone.
+/// Serves the connections of 1 to 1024 gates. Each gate has a thread, which serves its connections one after the other
+/// through a lane of its own, and the keeper of the lanes has a thread too. After all gates have ended, the desk is
+/// closed. The fault of a connection ends only that connection.
 ///
 /// # Errors
 /// `WorkFailed`.

@@ -1,4 +1,4 @@
-//! A client that submits several calls at once, and keeps what is told of each.
+//! A client that submits several calls at once, and stores the answer to each.
 ghost use Rattle.xs_command.specs.WellFormed.{IsWellFormed};
 ghost use Rattle.xs_desk.specs.KeptRings.{KeepsSide};
 
@@ -10,7 +10,7 @@ use xs_desk::{Answer, Client};
 use xs_stream::Moment;
 use xs_testing::{Job, MOST_TURNS, text_of};
 
-/// What was told of a call.
+/// The answer to a call.
 #[derive(Drop)]
 pub struct Told {
     pub line: Line,
@@ -20,7 +20,7 @@ pub struct Told {
     pub text: Vec<u8>,
 }
 
-/// Asks a line, or lines, so many times.
+/// Submits a line, or lines, a number of times.
 #[derive(Drop)]
 pub struct Asking {
     alloc: Global,
@@ -123,7 +123,7 @@ impl Job for Asking {
     }
 }
 
-/// Whether each call was told once, by tickets from the first one on, and at places that ascend.
+/// Whether each call was answered once, with tickets from `first` on, and at places that ascend.
 pub fn is_in_order(asking: &Asking, first: u64) -> bool {
     let mut ticket = first;
     let mut least = 0;
@@ -144,7 +144,7 @@ fn move_all(from: Vec<Told>, to: &mut Vec<Told>) -> Result<(), AllocError> {
     Ok(())
 }
 
-/// What was told of all calls, in the order of the places.
+/// The answers to all calls, in the order of the places.
 pub fn by_place(alloc: Global, jobs: Vec<Asking>) -> Result<Vec<Told>, AllocError> {
     let mut all = Vec::new(alloc);
     for job in jobs {

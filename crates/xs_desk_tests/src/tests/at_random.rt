@@ -8,17 +8,17 @@ use std::test::Fail;
 use std::thread::Threads;
 use std::time::{Clock, SystemTime};
 
-/// How many commands are made for each number of lanes.
+/// The number of commands that are made for each number of lanes.
 const COMMANDS: u64 = 1_000_000;
 
-/// A number that another run hardly has.
+/// A number that another run is unlikely to have.
 fn seed<R: Clock>(rt: &R) -> Result<u64, Fail> {
     let since = SystemTime::now(rt)?.duration_since(SystemTime::UNIX_EPOCH)?;
     let nanos = since.as_secs().wrapping_mul(1_000_000_000);
     Ok(nanos.wrapping_add(u64::from(since.subsec_nanos())))
 }
 
-/// Asks all commands from so many lanes at once, as many from each.
+/// Submits all commands from this number of lanes at once, as many from each.
 fn are_one_run<R: Abort + Clock + Print + Threads + Wait + Sync>(
     rt: &R,
     alloc: Global,

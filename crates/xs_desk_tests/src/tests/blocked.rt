@@ -16,7 +16,7 @@ const READ: &str = "XREADGROUP GROUP g c COUNT 1 BLOCK 0 STREAMS s >";
 
 const NULL: &str = "*-1\r\n";
 
-/// The replies that give one entry.
+/// The replies with one entry.
 const FIRST: &str = "*1\r\n*2\r\n$1\r\ns\r\n*1\r\n*2\r\n$3\r\n1-1\r\n*2\r\n$1\r\nf\r\n$1\r\nv\r\n";
 
 const SECOND: &str = "*1\r\n*2\r\n$1\r\ns\r\n*1\r\n*2\r\n$3\r\n2-1\r\n*2\r\n$1\r\nf\r\n$1\r\nv\r\n";
@@ -36,7 +36,7 @@ fn wait<R: Abort + Clock + Wait>(rt: &R, alloc: Global, steps: &[Step]) -> Resul
     play(rt, &mut desk, steps)
 }
 
-// The one that has waited longest gets what has come; the other waits on, and gets the next.
+// The one that has waited longest gets the entry; the other waits on, and gets the next.
 #[test]
 fn calls_wait_in_their_order(rt: HostRuntime) -> Result<(), Fail> {
     let steps = [
@@ -59,7 +59,7 @@ fn calls_wait_in_their_order(rt: HostRuntime) -> Result<(), Fail> {
     wait(&rt, rt.alloc(), &steps)
 }
 
-// An addition cuts the turn: a lane behind it that asks at the same time doesn't overtake the one that waits, and is
+// An addition ends the turn: a lane after it that asks at the same time doesn't overtake the one that waits, and is
 // served in the turn after.
 #[test]
 fn nobody_overtakes_one_who_waits(rt: HostRuntime) -> Result<(), Fail> {
@@ -78,7 +78,7 @@ fn nobody_overtakes_one_who_waits(rt: HostRuntime) -> Result<(), Fail> {
     wait(&rt, rt.alloc(), &steps)
 }
 
-// Lane 0 adds again and again, and others wait for it each time; lane 1, behind it, is served all the same.
+// Lane 0 adds again and again, and others wait for it each time; lane 1, after it, is served all the same.
 #[test]
 fn a_turn_that_is_cut_short_is_resumed(rt: HostRuntime) -> Result<(), Fail> {
     let steps = [
@@ -99,7 +99,7 @@ fn a_turn_that_is_cut_short_is_resumed(rt: HostRuntime) -> Result<(), Fail> {
     wait(&rt, rt.alloc(), &steps)
 }
 
-// Another key, or an addition that goes again at once, ends no wait. What is missing is told at once.
+// Another key, or an addition that is removed at once, ends no wait. If something is missing, that is reported at once.
 #[test]
 fn a_wait_ends_only_if_its_answer_is_another_one(rt: HostRuntime) -> Result<(), Fail> {
     let steps = [
@@ -120,7 +120,7 @@ fn a_wait_ends_only_if_its_answer_is_another_one(rt: HostRuntime) -> Result<(), 
     wait(&rt, rt.alloc(), &steps)
 }
 
-// A wait ends by its time, and the calls behind it come after it.
+// A wait ends by its time, and the calls after it are served later.
 #[test]
 fn a_wait_ends_by_its_time(rt: HostRuntime) -> Result<(), Fail> {
     let steps = [
@@ -159,7 +159,7 @@ fn a_client_ends_its_wait(rt: HostRuntime) -> Result<(), Fail> {
     wait(&rt, rt.alloc(), &steps)
 }
 
-// One whose client has left lets those behind it come first, and is answered when its second is over.
+// If a client has left, its call lets those after it come first, and is answered when its second is over.
 #[test]
 fn one_that_has_left_comes_last(rt: HostRuntime) -> Result<(), Fail> {
     let steps = [

@@ -7,7 +7,7 @@ use xs_bytes::Bytes;
 use xs_replay::{EventLog, LogFailed};
 use xs_stream::Moment;
 
-/// What a log has done, as a test sees it.
+/// The figures of a log, as a test sees them.
 #[derive(Drop)]
 pub struct Counts {
     pub noted: AtomicU64,
@@ -16,7 +16,7 @@ pub struct Counts {
 }
 
 impl Counts {
-    /// How many events were noted, and how many of them are kept.
+    /// The number of events that were noted, and the number of those that are kept.
     pub fn seen(&self) -> (u64, u64) {
         (
             self.noted.load(Ordering::SeqCst),
@@ -25,7 +25,7 @@ impl Counts {
     }
 }
 
-/// A log that counts, and fails once it has answered so many calls.
+/// A log that counts, and fails after a number of calls.
 #[derive(Drop)]
 pub struct CountingLog {
     pub counts: Arc<Counts>,

@@ -1,5 +1,5 @@
-//! Calls of desks and keyspaces without their contracts: a test owes only that it is safe, and what it doesn't need
-//! makes its proof long.
+//! Calls of desks and keyspaces without their contracts: a test only has to be safe, and unneeded contracts make its
+//! proof long.
 ghost use Rattle.xs_command.specs.WellFormed.{IsWellFormed};
 
 use std::alloc::Global;
@@ -19,12 +19,13 @@ pub fn new_desk(
     desk(alloc, lanes, depth)
 }
 
-/// How many calls a turn serves. All of them come at the same moment.
+/// The number of calls that a turn serves. All of them are at the same moment.
 pub fn turn(keeper: &mut Keeper) -> Option<u64> {
     keeper.turn(&mut Still::at(1000)?).ok()
 }
 
-/// Turns until so many calls are served, or more, and says how many. It is idle after a turn that served nobody.
+/// Turns until at least `wanted` calls are served, and returns their number. It is idle after a turn that served no
+/// call.
 pub fn serve<R: Wait>(rt: &R, keeper: &mut Keeper, wanted: u64) -> u64 {
     let mut served = 0u64;
     for _ in 0..MOST_TURNS {

@@ -12,7 +12,7 @@ use xs_desk::{Client, Lane, Port, PortFault};
 use xs_resp::{Reply, Simple};
 use xs_testing::MOST_TURNS;
 
-/// Asks until it is told that the keeper is gone, and once more. It says how many calls were answered before.
+/// Asks until the keeper is reported as gone, and once more. Returns the number of calls that were answered before.
 fn ask_until_gone<R: Wait>(rt: &R, client: Client) -> Option<u64> {
     let mut lane = Lane::new(client);
     for answered in 0..MOST_TURNS {
@@ -38,7 +38,7 @@ fn ask_beside<R: Threads + Wait + Copy + Send + Drop + 'static>(
     Ok(lanes)
 }
 
-/// How many calls were answered over all lanes, if each was told that the keeper is gone.
+/// The number of calls that were answered over all lanes, if the keeper was reported as gone to each.
 fn answered<R: Threads + Wait>(rt: &R, lanes: Vec<JoinHandle<Option<u64>>>) -> Option<u64> {
     let mut all = 0u64;
     for lane in lanes {
@@ -47,8 +47,8 @@ fn answered<R: Threads + Wait>(rt: &R, lanes: Vec<JoinHandle<Option<u64>>>) -> O
     Some(all)
 }
 
-// Each lane has the answers to its calls that were served, and is then told that the keeper is gone: where all of them
-// wait as it is dropped, and where it is dropped as soon as it has served.
+// Each lane has the answers to its calls that were served, and then the keeper is reported as gone: if all of them wait
+// when it is dropped, and if it is dropped as soon as it has served.
 #[test]
 fn lanes_that_wait_are_told(rt: HostRuntime) -> Result<(), Fail> {
     for (depth, late) in [(1, true), (4, true), (1, false), (4, false)] {

@@ -1,4 +1,4 @@
-//! What is asked: a line that is given, or one of any kind, made at random.
+//! The lines that are submitted: a line that is given, or one of any kind, made at random.
 ghost use Rattle.std.specs.Prelude.{◌<◌, IfOk};
 ghost use Rattle.xs_command.specs.WellFormed.{IsWellFormed};
 
@@ -14,7 +14,7 @@ pub enum Line {
     AtRandom(u64),
 }
 
-/// Kinds of lines. `%k` stands for a key, `%g` for a group, `%c` for a consumer, `%i` for an id, and `%n` for a number.
+/// Kinds of lines. `%k` is replaced by a key, `%g` by a group, `%c` by a consumer, `%i` by an id, and `%n` by a number.
 const KINDS: [&str; 45] = [
     "XADD %k * f %n",
     "XADD %k * f %n",
@@ -73,7 +73,7 @@ const NUMBERS: [&str; 8] = ["1", "2", "3", "4", "5", "6", "7", "8"];
 
 const SEQUENCES: [&str; 6] = ["0", "1", "2", "3", "4", "5"];
 
-/// Numbers at random, as SplitMix64 makes them.
+/// Random numbers, by SplitMix64.
 #[derive(Drop)]
 struct Dice {
     state: u64,
@@ -98,7 +98,7 @@ impl Dice {
         self.one_of(&KINDS)
     }
 
-    /// The word that stands in the place of this one.
+    /// The word that replaces this one.
     fn word(&mut self, alloc: Global, word: &[u8]) -> Result<Bytes, AllocError> {
         let one = match word {
             b"%k" => self.one_of(&KEYS),
@@ -131,7 +131,7 @@ fn at_random(alloc: Global, seed: u64) -> Result<Command, Refusal>
 }
 
 impl Line {
-    /// The line of the call with that number.
+    /// The line of the call with this number.
     pub fn of_call(self, number: u64) -> Line {
         match self {
             Line::Given(line) => Line::Given(line),

@@ -1,4 +1,4 @@
-//! A desk with a log: an answer is handed out once the log keeps what it tells.
+//! A desk with a log: an answer is handed out once the log keeps the events of its call and of those before it.
 use super::counting_log::{CountingLog, Counts};
 use super::steps::Step::{Asks, Settled, Told, ToldNothing, Turn};
 use super::steps::{SmallDesk, play, submits};
@@ -15,7 +15,7 @@ const ADDITION: &str = "XADD s * f v";
 
 type LoggedDesk = SmallDesk<LogJournal<CountingLog>>;
 
-/// A desk of two lanes of this depth, whose log fails once it has answered so many calls, and what the log has done.
+/// A desk of two lanes with this depth, whose log fails after `calls` calls, and the figures of the log.
 fn new_logged(alloc: Global, depth: usize, calls: u64) -> Result<(LoggedDesk, Arc<Counts>), Fail> {
     let counts = Arc::new(
         alloc,
@@ -99,7 +99,7 @@ fn what_changes_nothing_is_not_noted(rt: HostRuntime) -> Result<(), Fail> {
     Ok(())
 }
 
-// What is held back takes the places of a lane: a round ends when they are full.
+// Answers that are held back take the places of a lane: a round ends when they are full.
 #[test]
 fn a_lane_holds_back_as_many_as_it_has_places(rt: HostRuntime) -> Result<(), Fail> {
     let (mut desk, _counts) = new_logged(rt.alloc(), 2, 100)?;

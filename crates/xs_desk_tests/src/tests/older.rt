@@ -28,13 +28,13 @@ fn ask_late<R: Threads + Wait + Clock + Copy + Send + Drop + 'static>(
     thread::spawn(&rt, move || are_answered_late(&rt, client)).ok()
 }
 
-/// Submits a PING, and gives its ticket.
+/// Submits a PING, and returns its ticket.
 fn submit(alloc: Global, client: &mut Client) -> Result<Option<u64>, Fail> {
     let command = read(alloc, "PING older")?;
     Ok(client.submit(command).ok())
 }
 
-/// Submits so many calls, with a turn after each, and says how many were served.
+/// Submits a number of calls, with a turn after each. Returns how many were served.
 fn submit_older(
     alloc: Global,
     keeper: &mut Keeper,
@@ -52,7 +52,8 @@ fn submit_older(
 }
 
 // Calls were submitted before: as many as there are places were answered, and the others wait in the lane. The lane
-// takes these answers before its own ones; until it does nobody is served, and the keeper has to be told that it did.
+// takes these answers before its own ones. Until it does no call is served, and the keeper has to be notified when it
+// does.
 #[test]
 fn a_lane_takes_older_answers_first(rt: HostRuntime) -> Result<(), Fail> {
     let alloc = rt.alloc();

@@ -12,10 +12,10 @@ use xs_resp::Reply;
 use xs_stream::Moment;
 use xs_testing::{Trial, text_of};
 
-/// How many calls there are places for, over all lanes.
+/// The number of places for calls, over all lanes.
 const ON_THEIR_WAY: usize = 1024;
 
-/// A clock that goes on slowly, and back.
+/// A clock that advances slowly, and goes back.
 #[derive(Clone, Copy)]
 struct Slow {
     calls: u64,
@@ -30,14 +30,14 @@ impl Clock for Slow {
     }
 }
 
-/// What was seen of calls, in the order of their places.
+/// The result of a check of calls, in the order of their places.
 #[derive(Clone, Copy, Debug, PartialEq, Eq)]
 pub enum Seen {
-    /// They are so many calls of one run, so many of which were answered by an error.
+    /// They are `calls` calls of one run, of which `errors` were answered by an error.
     OneRun { calls: u64, errors: u64 },
-    /// At this place another place is told, or another reply.
+    /// At this place there is another place, or another reply.
     Differs(u64),
-    /// A lane was told something out of its order, or of too many calls or too few.
+    /// A lane got answers out of order, or too many or too few.
     Disorder,
     /// No lane had a call while another one had its calls.
     OneByOne,
@@ -55,7 +55,7 @@ fn ran_alone(
     Ok(replies.pop())
 }
 
-/// The reply of the keyspace to this call, if that is what was told.
+/// The reply of the keyspace to this call, if it is that of the answer.
 fn same_reply(
     alloc: Global,
     keyspace: &mut Keyspace,
@@ -68,7 +68,7 @@ fn same_reply(
     Ok((text.as_slice() == one.text.as_slice()).then_some(reply))
 }
 
-/// Whether the places are 0, 1, 2, .., and each reply is that of the keyspace behind the calls at the places before.
+/// Whether the places are 0, 1, 2, .., and each reply is that of the keyspace after the calls at the places before.
 fn see(alloc: Global, told: &Vec<Told>) -> Result<Seen, Refusal> {
     let mut keyspace = Keyspace::new(alloc);
     let mut calls = 0u64;
@@ -86,7 +86,7 @@ fn see(alloc: Global, told: &Vec<Told>) -> Result<Seen, Refusal> {
     Ok(Seen::OneRun { calls, errors })
 }
 
-/// The jobs of so many lanes. Each makes lines of its own.
+/// The jobs of this number of lanes. Each makes lines of its own.
 fn askers(alloc: Global, lanes: usize, each: u64, seed: u64) -> Result<Vec<Asking>, AllocError> {
     let mut jobs = Vec::new(alloc);
     let mut seed = seed;
@@ -127,8 +127,8 @@ fn are_in_order(jobs: &Vec<Asking>) -> bool {
     true
 }
 
-/// Asks so many commands from each of so many lanes at once, and gives what was seen of them, and the desk's summary.
-/// None says that a desk, a thread or memory for it is missing.
+/// Submits `each` commands from each of this number of lanes at once. Returns the result of the check, and the desk's
+/// summary. None if a desk, a thread or memory for it is missing.
 pub fn ask_at_random<R: Threads + Wait + Sync>(
     rt: &R,
     alloc: Global,

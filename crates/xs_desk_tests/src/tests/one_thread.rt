@@ -37,7 +37,7 @@ fn lanes_and_places_have_bounds(rt: HostRuntime) -> Result<(), Fail> {
     Ok(())
 }
 
-// On this `Exhausted` rests, which no run comes to.
+// `Exhausted`, which no run reaches, depends on this.
 #[test]
 fn the_greatest_place_is_the_last(rt: HostRuntime) {
     assert_eq!(rt; next_place(0), Some(1));
@@ -49,7 +49,7 @@ fn shown(alloc: Global, command: Command) -> Result<String, AllocError> {
     format!(in alloc; "{command:?}")
 }
 
-/// A desk in one hand, whose lanes have a place each, and the time of its calls.
+/// A desk in one thread, whose lanes have a place each, and the clock of its calls.
 #[derive(Drop)]
 struct Scene {
     alloc: Global,
@@ -66,13 +66,13 @@ impl Scene {
         })
     }
 
-    /// Whether a line is submitted, for this ticket.
+    /// Whether a line is submitted, with this ticket.
     fn submits(&mut self, lane: usize, line: &str, wanted: u64) -> Result<bool, Fail> {
         let command = read(self.alloc, line)?;
         Ok(self.trial.submit(lane, command).ok() == Some(wanted))
     }
 
-    /// Whether an addition for which there is no room comes back as it was.
+    /// Whether an addition for which there is no room is returned unchanged.
     fn is_handed_back(&mut self) -> Result<bool, Fail> {
         let wanted = shown(self.alloc, read(self.alloc, ADDITION)?)?;
         match self.trial.submit(0, read(self.alloc, ADDITION)?) {
@@ -81,7 +81,7 @@ impl Scene {
         }
     }
 
-    /// How many calls a turn serves.
+    /// The number of calls that a turn serves.
     fn turn(&mut self) -> Option<u64> {
         self.trial.turn(&mut self.clock).ok()
     }
@@ -102,7 +102,7 @@ impl Scene {
     }
 }
 
-/// Lane 0 is answered an addition that nobody takes, and asks for the next one.
+/// Lane 0 gets an answer to an addition, which isn't taken, and submits the next one.
 fn is_stuck<R: Abort>(rt: &R, scene: &mut Scene, ticket: u64) -> Result<(), Fail> {
     assert!(rt; scene.submits(0, ADDITION, ticket)?);
     assert_eq!(rt; scene.turn(), Some(1));
@@ -111,7 +111,7 @@ fn is_stuck<R: Abort>(rt: &R, scene: &mut Scene, ticket: u64) -> Result<(), Fail
 }
 
 // Lane 0 has a place for one command and one answer: a second command has none, and a call whose answer has no place
-// stays where it is.
+// stays.
 #[test]
 fn serves_one_call_after_the_other(rt: HostRuntime) -> Result<(), Fail> {
     let mut scene = Scene::new(rt.alloc(), 2)?;
@@ -140,7 +140,7 @@ fn both_are_answered<R: Abort>(rt: &R, scene: &mut Scene, number: u64) -> Result
     Ok(())
 }
 
-// A lane that takes nothing holds up nobody else.
+// A lane that takes nothing doesn't hold up others.
 #[test]
 fn a_stuck_lane_holds_up_nobody(rt: HostRuntime) -> Result<(), Fail> {
     let mut scene = Scene::new(rt.alloc(), 3)?;

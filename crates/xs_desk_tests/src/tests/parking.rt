@@ -9,10 +9,10 @@ use xs_resp::Reply;
 use xs_stream::Moment;
 use xs_testing::{Job, Trial, read};
 
-/// How often each client asks.
+/// How often each client submits.
 const TIMES: u64 = 500;
 
-/// A clock that leaps on. Calls don't follow fast by it, so a side that waits parks without a yield.
+/// A clock that leaps. By it calls don't follow fast, so a side that waits parks without a yield.
 #[derive(Clone, Copy)]
 struct Leaping {
     calls: u64,
@@ -27,7 +27,7 @@ impl Clock for Leaping {
     }
 }
 
-/// Asks for additions, and counts the replies that are no error.
+/// Submits additions, and counts the replies that aren't errors.
 #[derive(Drop)]
 struct Adding {
     alloc: Global,
@@ -59,7 +59,7 @@ fn adders(alloc: Global, lanes: u64) -> Result<Vec<Adding>, AllocError> {
     Ok(jobs)
 }
 
-/// Asks for the length of the stream, and tells it with the place of the call.
+/// Submits XLEN of the stream. Returns the length, and the place of the call.
 fn length(
     alloc: Global,
     trial: &mut Trial,
@@ -75,7 +75,7 @@ fn length(
     Ok(Some((answer.place, length)))
 }
 
-/// The number that a reply tells.
+/// The number of a reply.
 fn number_of(reply: &Reply) -> Option<u64> {
     match reply {
         Reply::Int(number) => Some(number.get()),

@@ -1,4 +1,4 @@
-//! Clients that ask for a PING.
+//! Clients that submit a PING.
 use std::sync::Wait;
 use std::thread;
 use std::thread::{JoinHandle, Threads};
@@ -14,12 +14,12 @@ pub fn is_answered<R: Wait>(rt: &R, lane: &mut Lane) -> bool {
     )
 }
 
-/// Whether a PING is told that the keeper is gone.
+/// Whether a PING fails because the keeper is gone.
 pub fn is_told_gone<R: Wait>(rt: &R, lane: &mut Lane) -> bool {
     matches!(lane.ask(rt, Command::Ping(None)), Err(PortFault::Gone))
 }
 
-/// Whether so many times a PING without a message is answered as such, over a lane with this client.
+/// Whether a PING without a message is answered as such `times` times, over a lane with this client.
 pub fn are_answered<R: Wait>(rt: &R, client: Client, times: u64) -> bool {
     let mut lane = Lane::new(client);
     for _ in 0..times {

@@ -23,7 +23,7 @@ const READS: [&str; 8] = [
     "XREADGROUP GROUP g h COUNT 1 STREAMS s >",
 ];
 
-/// How many entries there are, and how many reads.
+/// The number of entries, and the number of reads.
 const ENTRIES: u64 = 150;
 
 const ALL_READS: u64 = 200;
@@ -56,7 +56,7 @@ fn with_entries<R: Abort>(
     Ok(trial)
 }
 
-/// What delivers the entry.
+/// The reply that delivers the entry.
 fn delivery(alloc: Global, millis: u64) -> Result<String, AllocError> {
     let id = format!(in alloc; "{millis}-0")?;
     format!(in alloc;
@@ -82,7 +82,7 @@ fn reads_all<R: Abort>(rt: &R, alloc: Global, told: &Vec<Told>) -> Result<(), Fa
     Ok(())
 }
 
-/// Closes the desk. Each lane has read so often, and lane 0 has had the entries made before.
+/// Closes the desk. Each lane has read `each` times, and lane 0 has also added the entries before.
 fn closes<R: Abort>(rt: &R, alloc: Global, trial: Trial, each: u64) -> Result<Keyspace, Fail> {
     let summary = trial.close(alloc).ok_or("a summary")?;
     let mut served = each.saturating_add(ENTRIES + 1);
@@ -93,7 +93,7 @@ fn closes<R: Abort>(rt: &R, alloc: Global, trial: Trial, each: u64) -> Result<Ke
     Ok(summary.keyspace)
 }
 
-/// The jobs of so many lanes.
+/// The jobs of this number of lanes.
 fn readers(alloc: Global, lanes: usize, each: u64) -> Result<Vec<Asking>, AllocError> {
     let mut jobs = Vec::new(alloc);
     for line in READS.iter().take(lanes) {
@@ -102,7 +102,7 @@ fn readers(alloc: Global, lanes: usize, each: u64) -> Result<Vec<Asking>, AllocE
     Ok(jobs)
 }
 
-/// Whether each reader has had its calls in order. Lane 0 has made the entries before.
+/// Whether each reader has had its calls in order. Lane 0 has added the entries before.
 fn are_in_order(jobs: &Vec<Asking>) -> bool {
     let mut before = ENTRIES + 1;
     for job in jobs {

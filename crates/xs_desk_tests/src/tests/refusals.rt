@@ -1,4 +1,4 @@
-//! Desks that find no memory.
+//! Desks for which memory is refused.
 use super::desks::{new_desk, serve, turn};
 use super::pinging::{ask_beside, is_told_gone};
 use std::alloc::Global;
@@ -9,10 +9,10 @@ use xs_desk::{Client, DeskError, Full, Keeper, Lane, LaneSummary, Waker};
 use xs_resp::{Reply, Simple};
 use xs_testing::{Still, Trial};
 
-/// More turns that find nothing than a keeper makes until it parks.
+/// More turns that find nothing than a keeper makes before it parks.
 const LOOKS: u32 = 1000;
 
-/// A desk, made once more where memory was refused.
+/// A desk, made a second time if memory was refused.
 fn new_trial(alloc: Global, lanes: usize, depth: usize) -> Result<Trial, DeskError> {
     match Trial::new(alloc, lanes, depth) {
         Err(DeskError::Memory) => Trial::new(alloc, lanes, depth),
@@ -62,7 +62,7 @@ fn takes_pong(client: &mut Client) -> bool {
     }
 }
 
-/// Whether so many turns find nothing, with a waker that wakes the keeper each time.
+/// Whether a number of turns find nothing, with a waker that wakes the keeper each time.
 fn find_nothing<R: Wait>(rt: &R, keeper: &mut Keeper, waker: &Waker) -> bool {
     for _ in 0..LOOKS {
         if turn(keeper) != Some(0) {
@@ -74,7 +74,7 @@ fn find_nothing<R: Wait>(rt: &R, keeper: &mut Keeper, waker: &Waker) -> bool {
     true
 }
 
-// With all allocations refused from any one on, a desk that was made does what takes no memory.
+// With all allocations refused from any one on, a desk that was made makes those calls that take no memory.
 #[test]
 fn calls_of_a_desk_take_no_memory(rt: HostRuntime) -> Result<(), Fail> {
     let Ok((mut keeper, mut clients)) = new_desk(rt.alloc(), 1, 1) else {
@@ -95,7 +95,7 @@ fn calls_of_a_desk_take_no_memory(rt: HostRuntime) -> Result<(), Fail> {
     Ok(())
 }
 
-// The same of a lane that is answered.
+// The same for a lane that is answered.
 #[test]
 fn asking_takes_no_memory(rt: HostRuntime) -> Result<(), Fail> {
     let Ok((mut keeper, mut clients)) = new_desk(rt.alloc(), 1, 1) else {

@@ -5,10 +5,10 @@ use std::test::Fail;
 use xs_command::Command;
 use xs_testing::{Still, Trial};
 
-/// More calls than others have until a lane is at rest.
+/// More calls than others make before a lane is at rest.
 const MANY: u64 = 200;
 
-/// Whether a call had room.
+/// Whether there was room for a call.
 fn asks(trial: &mut Trial, lane: usize) -> bool {
     trial.submit(lane, Command::Ping(None)).is_ok()
 }
@@ -68,7 +68,7 @@ fn all_ask<R: Abort>(rt: &R, trial: &mut Trial) {
     }
 }
 
-// All lanes that call are served in one turn, in their order, and all but one were at rest.
+// All lanes that call are served in one turn, in their order. All but one were at rest.
 #[test]
 fn lanes_at_rest_are_served_in_order(rt: HostRuntime) -> Result<(), Fail> {
     let mut clock = Still::at(1000).ok_or("a moment")?;

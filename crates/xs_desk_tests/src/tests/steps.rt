@@ -1,4 +1,4 @@
-//! What is done to a desk in one thread, step by step, and what has to come of it.
+//! What is done to a desk in one thread, step by step, with the expected results.
 ghost use Rattle.xs_desk.specs.Calls.{IsFormed};
 
 use std::alloc::Global;
@@ -15,11 +15,11 @@ use xs_testing::{Still, read_call, text_of};
 pub enum Step {
     /// There is room for the line.
     Asks(usize, &'static str),
-    /// A turn serves so many calls.
+    /// A turn serves this many calls.
     Turn(u64),
     /// A turn serves some number of calls.
     SomeTurn,
-    /// So many lanes are handed answers that were held back.
+    /// This many lanes get answers that were held back.
     Settled(u64),
     /// The next answer is this text.
     Told(usize, &'static str),
@@ -27,13 +27,13 @@ pub enum Step {
     ToldOf(usize, &'static str),
     /// There is no answer.
     ToldNothing(usize),
-    /// The line is served alone in the next turn, and told this text.
+    /// The line is the only one served in the next turn, and gets this text.
     Answered(usize, &'static str, &'static str),
-    /// The lane whose call has waited, and which the next turn looks at alone.
+    /// The lane whose call has waited, and which is the only one that the next turn looks at.
     Due(Option<usize>),
     Postponed(usize),
     Hurried(usize),
-    /// So many milliseconds go by.
+    /// This many milliseconds pass.
     Slept(u64),
     ClockRead,
 }
@@ -61,12 +61,12 @@ impl<J: Journal + Drop> SmallDesk<J> {
         Ok(submits(client, read_call(self.alloc, line)?))
     }
 
-    /// How many calls a turn serves.
+    /// The number of calls that a turn serves.
     pub fn turn(&mut self) -> Option<u64> {
         self.keeper.turn(&mut self.clock).ok()
     }
 
-    /// How many lanes are handed answers that were held back.
+    /// The number of lanes that get answers that were held back.
     pub fn settle(&mut self) -> Option<u64> {
         self.keeper.settle().ok()
     }
@@ -99,7 +99,7 @@ impl<J: Journal + Drop> SmallDesk<J> {
         Ok(())
     }
 
-    /// Whether the step comes to what it says.
+    /// Whether the step has the expected result.
     fn does<R: Clock + Wait>(&mut self, rt: &R, step: Step) -> Result<bool, Fail> {
         match step {
             Step::Asks(lane, line) => return self.asks(lane, line),
@@ -120,7 +120,7 @@ impl<J: Journal + Drop> SmallDesk<J> {
     }
 }
 
-/// Each of these steps comes to what it says.
+/// Each of these steps has the expected result.
 pub fn play<J: Journal + Drop, R: Abort + Clock + Wait>(
     rt: &R,
     desk: &mut SmallDesk<J>,

@@ -10,7 +10,7 @@ use xs_command::Command;
 use xs_desk::Client;
 use xs_testing::MOST_TURNS;
 
-/// How often each of the other lanes asks.
+/// How often each of the other lanes submits.
 const TIMES: u64 = 1000;
 
 /// Whether there was room for a QUIT.
@@ -18,7 +18,8 @@ fn submits(client: &mut Client) -> bool {
     client.submit(Command::Quit).is_ok()
 }
 
-/// Submits calls, so many as both rings have room for, and takes nothing. It says whether a further one has no room.
+/// Submits as many calls as both rings have room for, and takes nothing. Returns whether there is no room for a further
+/// one.
 fn fill(client: Client, depth: u64) -> bool {
     let mut client = client;
     let wanted = depth.saturating_mul(2);
@@ -36,7 +37,7 @@ fn fill(client: Client, depth: u64) -> bool {
     submitted == wanted && !submits(&mut client)
 }
 
-/// Each of these clients asks so often, in a thread of its own.
+/// Each of these clients submits this often, in a thread of its own.
 fn all_ask<R: Threads + Wait + Copy + Send + Drop + 'static>(
     rt: R,
     alloc: Global,
@@ -58,7 +59,7 @@ fn are_answered<R: Threads + Wait>(rt: &R, lanes: Vec<JoinHandle<bool>>) -> bool
     true
 }
 
-// It fills its rings, and holds up nobody else.
+// It fills its rings, and doesn't hold up others.
 #[test]
 fn a_lane_that_takes_nothing_holds_up_nobody(rt: HostRuntime) -> Result<(), Fail> {
     for depth in [1, 4] {

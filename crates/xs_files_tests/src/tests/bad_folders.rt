@@ -83,7 +83,7 @@ fn a_log_is_of_another_format(rt: HostRuntime) -> Result<(), Fail> {
     Ok(())
 }
 
-/// The length of the last word says more bytes than it has, so that the record reads as an unfinished one.
+/// The length of the last word is greater than the word, so the record looks unfinished.
 #[test]
 fn a_length_that_has_changed_is_damage(rt: HostRuntime) -> Result<(), Fail> {
     empty_folder(&rt, "lengths")?;

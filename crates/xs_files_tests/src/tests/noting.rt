@@ -17,7 +17,7 @@ use xs_replay::EventLog;
 use xs_stream::Moment;
 use xs_tape::can_be_record;
 
-/// Words, one space apart.
+/// Words, separated by spaces.
 fn words_of(alloc: Global, line: &str) -> Result<Vec<Bytes>, Fail> {
     let mut words = Vec::new(alloc);
     for word in line.split(' ') {
@@ -60,8 +60,8 @@ pub fn lock_and_open<R: Files<File = File> + AllocGlobal + Copy + Drop>(
     open_folder(rt, folder, lock, policy, &progress)
 }
 
-/// Opens a folder and notes the event of a line in it. It gives how many events there were, and how many bytes were
-/// dropped.
+/// Opens a folder and notes the event of a line in it. Returns the number of events before, and the number of bytes
+/// that were dropped.
 pub fn note<R: Files<File = File> + AllocGlobal + Copy + Drop>(
     rt: &R,
     folder: &str,
@@ -97,7 +97,7 @@ pub fn remove_folder<R: Files<File = File> + AllocGlobal>(rt: &R, folder: &str) 
     let _ = rt.remove_dir_all(rt.alloc(), folder);
 }
 
-/// A new folder of this name, without anything in it.
+/// A new empty folder with this name.
 pub fn empty_folder<R: Files<File = File> + AllocGlobal>(rt: &R, folder: &str) -> Result<(), Fail> {
     remove_folder(rt, folder);
     match fs::create_dir(rt, folder) {

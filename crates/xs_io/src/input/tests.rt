@@ -1,12 +1,12 @@
-//! A buffer gives back the memory that many bytes took.
+//! A buffer gives back the memory that a large content needed.
 use super::*;
 use crate::device::FromRead;
 use std::test::Fail;
 
-/// The most bytes of memory that an empty buffer keeps: those of four pieces, and what growth adds to them.
+/// The most bytes of memory that an empty buffer keeps: those of four reads, and what growth adds to them.
 const MOST_KEPT: usize = 300_000;
 
-/// A buffer with so many pieces in it.
+/// A buffer with this many reads in it.
 fn filled_buffer(alloc: Global, pieces: usize) -> Result<Input, AllocError> {
     let mut bytes = Vec::new(alloc);
     bytes.resize(READ_BYTES, 7)?;

@@ -1,4 +1,4 @@
-//! What a crash may leave of a log, at each of its bytes.
+//! What a crash may leave of a log, for each of its bytes.
 ghost use Rattle.std.specs.Prelude.{IfOk};
 ghost use Rattle.xs_command.specs.WellFormed.{IsWellFormed};
 
@@ -14,7 +14,7 @@ use xs_log::{Extent, LogFault, Recovered, read_last_log};
 use xs_resp::encode;
 use xs_stream::Moment;
 
-/// What is asked of a keyspace to compare it with another one: the last two change it, and tell its cursor and its top
+/// The commands with which keyspaces are compared. The last two change the keyspace, and show its cursor and its top
 /// id.
 const QUESTIONS: [&str; 6] = [
     "XRANGE s - +",
@@ -41,7 +41,7 @@ pub fn command_of(alloc: Global, line: &str) -> Result<Command, Fail>
     }
 }
 
-/// What a keyspace answers to the questions.
+/// The replies of a keyspace to the questions.
 pub fn answers_of(alloc: Global, keyspace: &mut Keyspace) -> Result<Vec<u8>, Fail> {
     let now = Moment::new(5).ok_or("a moment")?;
     let mut answers = Vec::new(alloc);
@@ -53,7 +53,7 @@ pub fn answers_of(alloc: Global, keyspace: &mut Keyspace) -> Result<Vec<u8>, Fai
     Ok(answers)
 }
 
-/// What a keyspace answers to which the first so many commands were applied.
+/// The replies of a keyspace after the first `count` commands.
 fn answers_after(alloc: Global, count: usize) -> Result<Vec<u8>, Fail> {
     let mut keyspace = Keyspace::new(alloc);
     for number in 0..count {
@@ -65,7 +65,7 @@ fn answers_after(alloc: Global, count: usize) -> Result<Vec<u8>, Fail> {
     answers_of(alloc, &mut keyspace)
 }
 
-/// The answers after none of the commands, after the first, after the first two, ..
+/// The replies after no commands, after the first, after the first two, ..
 pub fn all_answers(alloc: Global, log: &LogText) -> Result<Vec<Vec<u8>>, Fail> {
     let mut answers = Vec::new(alloc);
     for count in 0..log.ends.len() {
@@ -81,7 +81,7 @@ pub fn recover(alloc: Global, file: &[u8]) -> Result<(Recovered, Extent), LogFau
     Ok((recovered, extent))
 }
 
-/// How many records end at this byte or before it.
+/// The number of records that end at this byte or before it.
 pub fn records_within(log: &LogText, size: usize) -> usize {
     let mut count = 0usize;
     for end in log.ends.as_slice() {
@@ -92,7 +92,7 @@ pub fn records_within(log: &LogText, size: usize) -> usize {
     count.saturating_sub(1)
 }
 
-/// A file of which so many bytes reached the disk has the records that are whole.
+/// A file of which this many bytes reached the disk has the records that are complete.
 fn has_whole_records<R: Abort>(
     rt: &R,
     alloc: Global,
@@ -119,7 +119,7 @@ fn has_whole_records<R: Abort>(
     Ok(())
 }
 
-/// This many bytes of a log, and behind them zeros.
+/// This many bytes of a log, and after them zeros.
 pub fn with_zeros(alloc: Global, bytes: &[u8], size: usize) -> Result<Vec<u8>, Fail> {
     let mut file = Vec::new(alloc);
     for (place, byte) in bytes.iter().enumerate() {
@@ -128,7 +128,7 @@ pub fn with_zeros(alloc: Global, bytes: &[u8], size: usize) -> Result<Vec<u8>, F
     Ok(file)
 }
 
-/// A log in which the byte at this place has other bits.
+/// A log in which these bits of the byte at this place are inverted.
 pub fn with_turned_bits(alloc: Global, bytes: &[u8], at: usize, bits: u8) -> Result<Vec<u8>, Fail> {
     let mut file = Vec::new(alloc);
     for (place, byte) in bytes.iter().enumerate() {

@@ -1,4 +1,4 @@
-//! A log that is spelled here, with checksums that another program made.
+//! A log that is spelled here, with checksums made by another program.
 use std::alloc::{AllocError, Global};
 use xs_bytes::push_decimal;
 
@@ -7,7 +7,7 @@ use xs_bytes::push_decimal;
 pub struct Record {
     pub moment: u64,
     pub checksum: u64,
-    /// The words of the command as they stand in the log, one space apart.
+    /// The words of the command as the log has them, separated by spaces.
     pub logged: &'static str,
     /// The same as they were sent.
     pub words: &'static str,
@@ -60,7 +60,7 @@ pub fn record_numbered(number: usize) -> Option<Record> {
     }
 }
 
-/// A log, and where its header and its records end.
+/// A log, and the ends of its header and its records.
 #[derive(Drop)]
 pub struct LogText {
     pub bytes: Vec<u8>,
@@ -101,7 +101,7 @@ fn words_in(words: &str) -> u64 {
 }
 
 impl LogText {
-    /// Nothing.
+    /// An empty text.
     pub fn empty(alloc: Global) -> LogText {
         LogText {
             bytes: Vec::new(alloc),
@@ -114,22 +114,22 @@ impl LogText {
         LogText::with_header(alloc, 2_305_457_928, "2 1 1", 0, usize::MAX)
     }
 
-    /// The log with number 1, and so many records.
+    /// The log with number 1, and the first `count` records.
     pub fn first(alloc: Global, count: usize) -> Result<LogText, AllocError> {
         LogText::part(alloc, 0, count)
     }
 
-    /// The log with number 1, and the records from one on and below another.
+    /// The log with number 1, and the records from `from` on and below `end`.
     pub fn part(alloc: Global, from: usize, end: usize) -> Result<LogText, AllocError> {
         LogText::with_header(alloc, 2_305_457_928, "2 1 1", from, end)
     }
 
-    /// The log with number 2, and the records from this one on.
+    /// The log with number 2, and the records from `from` on.
     pub fn second(alloc: Global, from: usize) -> Result<LogText, AllocError> {
         LogText::with_header(alloc, 3_180_189_585, "2 2 1", from, usize::MAX)
     }
 
-    /// A header with this checksum and these words, and the records from one on and below another.
+    /// A header with this checksum and these words, and the records from `from` on and below `end`.
     fn with_header(
         alloc: Global,
         checksum: u64,
@@ -152,7 +152,7 @@ impl LogText {
         Ok(log)
     }
 
-    /// Appends a record with a first word, a checksum, and these words behind it as they stand in a log.
+    /// Appends a record with a first word, a checksum, and these words after it as a log has them.
     pub fn push_words(
         &mut self,
         alloc: Global,
@@ -177,7 +177,7 @@ impl LogText {
         self.push_sized(alloc, count, sent.as_slice())
     }
 
-    /// Appends so many words, which are spelled here, behind their size.
+    /// Appends `count` words, which are spelled here, after their size.
     fn push_sized(&mut self, alloc: Global, count: u64, sent: &[u8]) -> Result<(), AllocError> {
         push_line(&mut self.bytes, b"*", count.saturating_add(1))?;
         push_number(&mut self.bytes, alloc, sent.len() as u64)?;

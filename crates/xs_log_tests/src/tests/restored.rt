@@ -1,4 +1,4 @@
-//! A keyspace is read from a snapshot that another program wrote.
+//! Reads a keyspace from a snapshot that another program wrote.
 use crate::tests::crash_points::command_of;
 use crate::tests::snapshot_text::snapshot_text;
 use std::alloc::Global;
@@ -10,7 +10,7 @@ use xs_resp::encode;
 use xs_snapshot::read_snapshot;
 use xs_stream::Moment;
 
-/// What is asked of the keyspace, and what it replies.
+/// Commands for the keyspace, and its replies.
 const REPLIES: [(&str, &str); 9] = [
     ("XLEN j", ":2\r\n"),
     (
@@ -47,7 +47,7 @@ fn restored(alloc: Global) -> Result<Keyspace, Fail> {
     }
 }
 
-/// What the keyspace replies to a command, a while after the snapshot was written.
+/// The reply of the keyspace to a command, a while after the snapshot was written.
 fn reply_to(alloc: Global, keyspace: &mut Keyspace, line: &str) -> Result<Vec<u8>, Fail> {
     let now = Moment::new(100).ok_or("a moment")?;
     let command = command_of(alloc, line)?;

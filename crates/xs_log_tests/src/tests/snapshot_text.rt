@@ -1,9 +1,9 @@
-//! A snapshot that is spelled here, with checksums that another program made.
+//! A snapshot that is spelled here, with checksums made by another program.
 use crate::tests::log_text::LogText;
 use std::alloc::{AllocError, Global};
 
-/// The records of the snapshot with number 3, whose last event came at 8: of each its first word, its checksum, and the
-/// words behind it as they stand in the file.
+/// The records of the snapshot with number 3, whose last event is at 8: of each its first word, its checksum, and the
+/// words after it as the file has them.
 const RECORDS: [(&str, u64, &str); 12] = [
     ("xs-snapshot", 3_621_890_662, "1 3 1 8"),
     ("KEY", 3_728_971_747, "j 4 0 1 5 2 7"),
@@ -23,7 +23,7 @@ const RECORDS: [(&str, u64, &str); 12] = [
     ("END", 157_549_682, "10"),
 ];
 
-/// How the pieces print.
+/// The pieces, as they are printed.
 pub const PIECES: [&str; 10] = [
     "Key { name: [106], top: Id { ms: 4, seq: 0 }, added: 18446744073709551621, \
         deleted: Id { ms: 2, seq: 7 } }",
@@ -45,7 +45,7 @@ pub const PIECES: [&str; 10] = [
         deleted: Id { ms: 9, seq: 9 } }",
 ];
 
-/// The bytes of the snapshot, and where its records end.
+/// The bytes of the snapshot, and the ends of its records.
 pub fn snapshot_text(alloc: Global) -> Result<LogText, AllocError> {
     let mut text = LogText::empty(alloc);
     for (first, checksum, words) in RECORDS {
@@ -54,7 +54,7 @@ pub fn snapshot_text(alloc: Global) -> Result<LogText, AllocError> {
     Ok(text)
 }
 
-/// The first records, so many, and an end of so many pieces with this checksum.
+/// The first `records` records, and an end with `count` pieces and this checksum.
 pub fn with_end(
     alloc: Global,
     records: usize,

@@ -1,4 +1,4 @@
-//! Snapshots: what another program wrote is read, and written so; what isn't whole is refused.
+//! Snapshots: one that another program wrote is read, and the same is written; one that isn't complete is refused.
 ghost use Rattle.std.specs.Prelude.{◌≡◌, false, OnOk};
 
 use crate::tests::crash_points::with_turned_bits;
@@ -73,7 +73,7 @@ fn jobs(alloc: Global) -> Result<Stream, Fail> {
     Ok(stream)
 }
 
-/// A moment, or the greatest one.
+/// A moment, or the greatest one if it is too great.
 fn moment(millis: u64) -> Moment {
     Moment::new(millis).unwrap_or(Moment::new(Moment::MAX_MILLIS).unwrap())
 }
@@ -227,7 +227,7 @@ fn another_number_is_refused(rt: HostRuntime) -> Result<(), Fail> {
     Ok(())
 }
 
-/// Puts so many groups with this name.
+/// Puts a number of groups with this name.
 fn put_many(
     writer: &mut SnapshotWriter<MemoryTape>,
     name: &[u8],

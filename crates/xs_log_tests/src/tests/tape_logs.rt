@@ -14,13 +14,13 @@ use xs_replay::EventLog;
 use xs_stream::Moment;
 use xs_tape::{MemoryTape, can_be_record};
 
-/// How many records there are.
+/// The number of records.
 const RECORDS: usize = 14;
 
 /// More calls than are made.
 const ALL: u64 = 1_000;
 
-/// Words, one space apart.
+/// Words, separated by spaces.
 fn words_of(alloc: Global, line: &str) -> Result<Vec<Bytes>, Fail> {
     let mut words = Vec::new(alloc);
     for word in line.split(' ') {
@@ -29,7 +29,7 @@ fn words_of(alloc: Global, line: &str) -> Result<Vec<Bytes>, Fail> {
     Ok(words)
 }
 
-/// Notes an event and keeps it, and says whether that worked.
+/// Notes an event and keeps it. Returns whether that worked.
 fn note_and_keep(log: &mut TapeLog<MemoryTape>, now: Moment, words: &[Bytes]) -> bool
     requires sound { ⟦<TapeLog<MemoryTape> as EventLog>⟧.broken log.old ≡ false }
     requires short { CanBeSpelled (record_words (decimal now) words.now) }
@@ -45,7 +45,7 @@ fn note_and_keep(log: &mut TapeLog<MemoryTape>, now: Moment, words: &[Bytes]) ->
     }
 }
 
-/// Notes the record with a number and keeps it, and says whether that worked.
+/// Notes the record with a number and keeps it. Returns whether that worked.
 fn keep_numbered(alloc: Global, log: &mut TapeLog<MemoryTape>, number: usize) -> Result<bool, Fail>
     requires sound { ⟦<TapeLog<MemoryTape> as EventLog>⟧.broken log.old ≡ false }
     ensures { IfOk result (λ fine. fine ≡ true → ⟦<TapeLog<MemoryTape> as EventLog>⟧.broken log.new ≡ false) }
@@ -62,7 +62,7 @@ fn keep_numbered(alloc: Global, log: &mut TapeLog<MemoryTape>, number: usize) ->
     Ok(note_and_keep(log, now, words))
 }
 
-/// Keeps the records, one after the other, until a call fails. It gives how many were kept.
+/// Keeps the records, one after the other, until a call fails. Returns how many were kept.
 fn keep_records(alloc: Global, log: &mut TapeLog<MemoryTape>) -> Result<usize, Fail>
     requires { ⟦<TapeLog<MemoryTape> as EventLog>⟧.broken log.old ≡ false }
 {
@@ -75,7 +75,7 @@ fn keep_records(alloc: Global, log: &mut TapeLog<MemoryTape>) -> Result<usize, F
     Ok(RECORDS)
 }
 
-/// These files have so many records at least, and no others than those that were noted.
+/// These files have at least this many records, and no others than those that were noted.
 fn has_kept_records<R: Abort>(
     rt: &R,
     alloc: Global,
@@ -104,7 +104,7 @@ fn is_tried(size: usize, first: usize, end: usize) -> bool {
     size == end || size.saturating_sub(first) % 9 == 0
 }
 
-/// Whatever a crash leaves of these logs has the kept records: the last file may end behind what is kept, and be zero
+/// Whatever a crash leaves of these logs has the kept records: the last file may end after what is kept, and be zero
 /// from anywhere there.
 fn survives<R: Abort>(
     rt: &R,
@@ -127,7 +127,7 @@ fn survives<R: Abort>(
     Ok(())
 }
 
-/// Over a tape that fails at each of its calls, what was kept survives, in logs of so many bytes.
+/// Over a tape that fails at each of its calls, what was kept survives, in logs of `full` bytes.
 fn survives_each_failure<R: Abort>(rt: &R, alloc: Global, full: u64) -> Result<(), Fail> {
     let answers = all_answers(alloc, &LogText::new(alloc)?)?;
     for calls in 2..50 {

@@ -1,5 +1,5 @@
-//! Bits that have turned, of closed logs and of the last one: each is noticed, but where it makes a zero in the last
-//! one. There a zero is what a crash may leave.
+//! Inverted bits, in closed logs and in the last one: each is noticed, unless it makes a zero in the last one. There a
+//! crash may leave a zero.
 use crate::tests::crash_points::{recover, with_turned_bits};
 use crate::tests::log_text::LogText;
 use std::alloc::Global;
@@ -11,7 +11,7 @@ use xs_log::{Extent, LogFault, Recovered};
 /// The bits of a byte.
 const BITS: [u8; 8] = [1, 2, 4, 8, 16, 32, 64, 128];
 
-/// The byte at which the header or the record begins that has this byte.
+/// The first byte of the header or the record that has this byte.
 fn begin_of(log: &LogText, place: usize) -> usize {
     let mut begin = 0;
     for end in log.ends.as_slice() {
@@ -22,7 +22,7 @@ fn begin_of(log: &LogText, place: usize) -> usize {
     begin
 }
 
-/// Whether a fault tells of a turned bit in what begins at this byte: of a header it may say more.
+/// Whether a fault reports an inverted bit in the part that begins at this byte: for a header it may be more specific.
 fn tells_of(fault: LogFault, begin: usize) -> bool {
     match fault {
         LogFault::Damaged(at) => at == begin as u64,
@@ -49,8 +49,8 @@ fn fault_of_closed(alloc: Global, file: &[u8]) -> Result<Option<LogFault>, Fail>
     Ok(told.map(|refusal| refusal.fault))
 }
 
-/// Whether a bit of the last log that turned at this place was noticed. If it made a zero the log ends there, as behind
-/// a crash.
+/// Whether an inverted bit of the last log at this place was noticed. If it made a zero, the log ends there, as after a
+/// crash.
 fn is_noticed(file: &[u8], read: Result<Extent, LogFault>, place: usize, begin: usize) -> bool {
     let is_zero = file.get(place) == Some(&0);
     match read {
@@ -59,7 +59,7 @@ fn is_noticed(file: &[u8], read: Result<Extent, LogFault>, place: usize, begin: 
     }
 }
 
-/// Each bit of the byte at this place is noticed, of a closed log or of the last one.
+/// Each inverted bit of the byte at this place is noticed, in a closed log and in the last one.
 fn refuses_each_bit<R: Abort>(
     rt: &R,
     alloc: Global,
@@ -82,7 +82,7 @@ fn refuses_each_bit<R: Abort>(
     Ok(())
 }
 
-/// Each turned bit of the log with these records is noticed.
+/// Each inverted bit of the log with these records is noticed.
 fn refuses_turned_bits<R: Abort>(
     rt: &R,
     alloc: Global,

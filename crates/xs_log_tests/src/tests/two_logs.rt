@@ -6,7 +6,7 @@ use std::test::Fail;
 use xs_io::FromRead;
 use xs_log::{Extent, LogFault, LogsFault, Recovered, recover};
 
-/// How many records the closed log has.
+/// The number of records of the closed log.
 const CLOSED: usize = 6;
 
 /// What is recovered of these logs, the last of which is open.

@@ -1,4 +1,4 @@
-//! The bytes of a script that came in and aren't taken yet.
+//! The bytes of a script that were read and aren't taken yet.
 ghost use Rattle.std.specs.Prelude.{◌≡◌, ◌+◌, ◌<◌, ◌≤◌, ◌++◌, ◌∷◌, [], false, length, take, drop, MatchOption};
 ghost use Rattle.std.specs.List.{list_any};
 ghost use Rattle.xs_script.specs.Line.{is_line_end};
@@ -8,11 +8,11 @@ use std::alloc::Global;
 use std::marker::Model;
 use xs_io::{Fill, FillFault, Input, Source};
 
-/// Bytes that came in and aren't taken yet. A contract sees them as a list.
+/// Bytes that were read and aren't taken yet. A contract sees them as a list.
 #[derive(Drop)]
 pub struct HeldBytes {
     input: Input,
-    // No line ends before this index, so that no byte is looked at twice for a line's end.
+    // No line ends before this index, so no byte is searched twice for a line end.
     searched: usize,
 }
 
@@ -28,7 +28,7 @@ impl Model for HeldBytes {
     ghost invariant = { λ h. (h.searched ≤ length h.input) × (list_any is_line_end (take h.searched h.input) ≡ false) };
 }
 
-/// Where the first line of some bytes ends, without its LF.
+/// The end of the first line of some bytes, without its LF. None if no line ends.
 fn first_line_end(bytes: &[u8]) -> Option<usize>
     ensures { MatchOption result (list_any is_line_end bytes.now ≡ false)
         (λ at. (at < length bytes.now) × (list_any is_line_end (take at bytes.now) ≡ false)
@@ -38,7 +38,7 @@ fn first_line_end(bytes: &[u8]) -> Option<usize>
 }
 
 impl HeldBytes {
-    /// Nothing. It takes no memory.
+    /// No bytes. It takes no memory.
     pub fn new(alloc: Global) -> Self
         ensures { result ≡ [] }
     {
@@ -55,7 +55,7 @@ impl HeldBytes {
         self.input.bytes()
     }
 
-    /// Where the first line ends, without its LF.
+    /// The end of the first line, without its LF. None if no line ends.
     pub fn line_end(&mut self) -> Option<usize>
         ensures found { MatchOption result (list_any is_line_end self.new ≡ false)
             (λ at. (at < length self.new) × (list_any is_line_end (take at self.new) ≡ false)
@@ -72,7 +72,7 @@ impl HeldBytes {
         }
     }
 
-    /// Uses up the first bytes.
+    /// Removes the first `count` bytes.
     pub fn consume(&mut self, count: usize)
         requires { count ≤ length self.old }
         ensures { self.new ≡ drop count self.old }

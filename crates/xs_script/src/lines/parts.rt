@@ -1,4 +1,4 @@
-//! What a line of a script says.
+//! The content of a line of a script.
 ghost use Rattle.std.specs.Prelude.{◌≡◌, ◌<◌, ◌≤◌, ◌∷◌, length, IfOk, IfSome};
 ghost use Rattle.std.specs.Option.{option_map, option_copied};
 ghost use Rattle.xs_script.specs.Line.{parts_of, parts_behind, full_parts, moment_of, line_of, line_limit};
@@ -8,10 +8,10 @@ use std::alloc::{AllocError, Global};
 use xs_bytes::{Bytes, natural};
 use xs_stream::Moment;
 
-/// How many words most lines have at most: there is room for them at once.
+/// The most words of most lines: there is room for them at once.
 const MOST_WORDS: usize = 16;
 
-/// The part before the first space, and what stands behind it.
+/// The part before the first space, and what follows the space. None if there is no space.
 fn split_space(text: &[u8]) -> (&[u8], Option<&[u8]>)
     ensures parts { parts_of text.now ≡ result.0.now ∷ parts_behind (option_copied result.1) }
     ensures shorter { IfSome result.1 (λ rest. length rest.now < length text.now) }
@@ -22,7 +22,7 @@ fn split_space(text: &[u8]) -> (&[u8], Option<&[u8]>)
     }
 }
 
-/// The parts of a text between spaces, where none is empty.
+/// The parts of a text between spaces. None if one is empty.
 fn words_of(alloc: Global, text: &[u8]) -> Result<Option<Vec<Bytes>>, AllocError>
     ensures { IfOk result (λ words. option_map (λ w. w.items) words
         ≡ full_parts (parts_of text.now)) }
@@ -47,7 +47,7 @@ fn moment(text: &[u8]) -> Option<Moment>
     Moment::new(natural(text)?)
 }
 
-/// The moment and the words of a script line, or None where it is no script line.
+/// The moment and the words of a script line. None if it isn't a script line.
 pub fn read_line(alloc: Global, line: &[u8]) -> Result<Option<(Moment, Vec<Bytes>)>, AllocError>
     requires { length line.now ≤ line_limit }
     ensures { IfOk result (λ read. option_map (λ r. (r.0, r.1.items)) read ≡ line_of line.now) }

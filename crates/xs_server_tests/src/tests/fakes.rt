@@ -1,5 +1,5 @@
-//! Readers and writers of std that give and take a few bytes at a time, wait, count or fail, and a clock that stands
-//! still.
+//! Readers and writers of std that give and take a few bytes at a time, wait, count or fail, and a clock that doesn't
+//! advance.
 mod in_two;
 mod one_thread;
 mod pieces;

@@ -1,4 +1,4 @@
-//! Work over gates that are no sockets.
+//! Work over gates that aren't sockets.
 ghost use Rattle.std.specs.Prelude.{◌≡◌, IfOk, IfSome};
 ghost use Rattle.xs_work.specs.Gates.{AreFresh};
 
@@ -13,12 +13,12 @@ use xs_session::Manner;
 use xs_stream::Moment;
 use xs_work::{Gate, GateFault, Register, WorkFault, WorkOutcome, work};
 
-/// How often a reader looks whether it may give more.
+/// The number of looks of a reader for whether it may give more.
 const LOOKS: u64 = 1_000_000;
 
 const PONG: &[u8] = b"+PONG\r\n";
 
-/// A clock that stands at moment 1000.
+/// A clock that is always at moment 1000.
 fn still() -> Still {
     Still {
         moment: Moment::new(1000).unwrap(),
@@ -68,7 +68,7 @@ impl Sink for Outgoing {
     }
 }
 
-/// A gate with some connections, which counts the replies to them, and then refuses one or ends.
+/// A gate with some connections, which counts the replies to them, and then refuses a connection or ends.
 #[derive(Drop)]
 struct Scripted {
     connections: &'static [Script],
@@ -147,7 +147,7 @@ impl Gate for Scripted {
     }
 }
 
-/// A whole PING.
+/// A complete PING.
 const PING: Script = Script {
     first: b"*1\r\n$4\r\nPING\r\n",
     others: b"",
@@ -155,7 +155,7 @@ const PING: Script = Script {
     fails: false,
 };
 
-/// A PING whose end comes once the other gate's replies are counted.
+/// A PING whose end comes after the other gate's replies are counted.
 const LATE_PING: Script = Script {
     first: b"*1\r\n$4\r\nPI",
     others: b"NG\r\n",
@@ -171,10 +171,10 @@ const UNHEARD_PING: Script = Script {
     fails: true,
 };
 
-/// Why work didn't come to its end, and the summary that it has all the same.
+/// Why work failed, and the summary that it has all the same.
 type Fault = (WorkFault, Option<Summary>);
 
-/// The summary of what work came to.
+/// The summary of the outcome of work.
 fn summary_of(outcome: Option<WorkOutcome<Scripted>>) -> Option<Summary> {
     match outcome {
         Some(outcome) => Some(outcome.summary),
@@ -182,8 +182,8 @@ fn summary_of(outcome: Option<WorkOutcome<Scripted>>) -> Option<Summary> {
     }
 }
 
-/// Works over two gates, each of which may wait for the replies to the other one, and answers what `work` answers and
-/// how many replies were counted at each.
+/// Works over two gates, each of which may wait for the replies to the other one. Returns the result of `work`, and the
+/// number of replies that were counted at each.
 fn work_over<R: Threads + Wait + Copy + Send + 'static>(
     rt: &R,
     alloc: Global,
@@ -227,7 +227,7 @@ fn served(count: u64) -> LaneSummary {
     }
 }
 
-// The first connection gets its end only once the second one is answered: each has a thread of its own, and both are
+// The first connection gets its end only after the second one is answered: each has a thread of its own, and both are
 // served by one keeper.
 #[test]
 fn gate_two_connections(rt: HostRuntime) -> Result<(), Fail> {
@@ -264,7 +264,7 @@ fn a_failed_connection_ends_alone(rt: HostRuntime) -> Result<(), Fail> {
     Ok(())
 }
 
-// With any one allocation refused, in whichever thread, work gives a summary or says what it lacked; then it is whole.
+// With any one allocation refused, in any thread, work returns a summary or reports what it lacked; then it succeeds.
 #[test]
 fn a_refused_work_is_done_again(rt: HostRuntime) -> Result<(), Fail> {
     if let Ok((Err((fault, _)), _, _)) = work_over(&rt, rt.alloc(), &[PING], &[PING], false) {

@@ -1,4 +1,4 @@
-//! What INFO tells.
+//! What INFO reports.
 use super::*;
 use std::alloc::{AllocError, Global};
 use std::sync::Arc;
@@ -11,7 +11,7 @@ use xs_tcp::figures::{Figures, KeeperState, SharedFigures, WorkerFigures};
 use xs_tcp::information::{Information, LogSettings, Settings};
 use xs_tcp::limits::resident_in;
 
-/// What a worker counts that serves a connection, and has had so many before; of its replies one was an error.
+/// The figures of a worker that serves a connection, and has served `gone` before; one of its replies was an error.
 fn worker(alloc: Global, replies: u64, gone: u64) -> Result<SharedFigures, AllocError> {
     let figures = WorkerFigures::new(alloc)?;
     for _ in 0..gone {
@@ -34,7 +34,7 @@ fn log(alloc: Global) -> Result<LogSettings, AllocError> {
     })
 }
 
-/// A server whose two workers have had three connections, of which one has ended.
+/// A server whose two workers have served three connections, one of which has ended.
 fn server(rt: &HostRuntime) -> Result<Information, Fail> {
     let alloc = rt.alloc();
     let mut workers = Vec::new(alloc);
@@ -56,7 +56,7 @@ fn server(rt: &HostRuntime) -> Result<Information, Fail> {
     Ok(Information { settings, figures })
 }
 
-/// What it tells of sections that are named so.
+/// What it reports for sections with these names.
 fn told(rt: &HostRuntime, names: &[&str]) -> Result<Bytes, Fail> {
     let alloc = rt.alloc();
     let mut words = Vec::new(alloc);
@@ -120,7 +120,7 @@ fn tells_of_all_sections(rt: HostRuntime) -> Result<(), Fail> {
     Ok(())
 }
 
-// The text as Linux gives it: pages in all, resident, shared and so on.
+// The text as Linux gives it: pages in total, resident, shared and so on.
 #[test]
 fn reads_resident_memory(rt: HostRuntime) {
     assert_eq!(rt; resident_in("1393 250 228 8 0 113 0\n"), Some(1_024_000));

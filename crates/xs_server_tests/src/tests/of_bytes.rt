@@ -1,4 +1,4 @@
-//! A script over bytes that are in hand.
+//! A script over bytes in memory.
 ghost use Rattle.std.specs.Prelude.{◌≡◌, IfOk};
 ghost use Rattle.xs_script.specs.Line.{script_lines};
 ghost use Rattle.xs_script.specs.Script.{IsScript};
@@ -7,7 +7,7 @@ use std::alloc::Global;
 use xs_io::{FromRead, ToWrite};
 use xs_script::{ScriptFault, run_script};
 
-/// Runs a script over these bytes, and gives the replies.
+/// Runs a script over these bytes. Returns the replies.
 pub fn run_bytes(alloc: Global, script: &[u8]) -> Result<Vec<u8>, ScriptFault>
     ensures { IfOk result (λ replies. IsScript (script_lines script.now) replies.items) }
 {

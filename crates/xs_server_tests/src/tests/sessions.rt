@@ -1,4 +1,4 @@
-//! Whole connections, at moment 1000.
+//! Complete connections, at moment 1000.
 use super::*;
 use crate::tests::fakes::{InTwo, OneThread};
 use std::sync::atomic::AtomicU64;
@@ -8,7 +8,7 @@ use xs_desk::{Idle, desk};
 use xs_session::{Ending, Manner, Session};
 use xs_work::{AheadFault, serve_ahead};
 
-/// A reader that fails if it is read for the others before so many bytes are counted.
+/// A reader that fails if its second part is read before a number of bytes are counted.
 fn in_two<'a>(
     first: &'a [u8],
     others: &'a [u8],
@@ -28,7 +28,7 @@ const PINGS: &str = "*1\r\n$4\r\nPING\r\n*0\r\n*-1\r\n*2\r\n$4\r\nping\r\n$2\r\n
 
 const PONGS: &str = "+PONG\r\n$2\r\nhi\r\n";
 
-/// Whole connections: what is read, what is written, and how each ends.
+/// Complete connections: what is read, what is written, and how each ends.
 pub fn whole_connections() -> [(&'static str, &'static str, Ending); 12] {
     [
         (PINGS, PONGS, Ending::Closed),
@@ -70,7 +70,7 @@ pub fn whole_connections() -> [(&'static str, &'static str, Ending); 12] {
     ]
 }
 
-// Cut at every place into two.
+// Cut into two at every place.
 #[test]
 fn serves_whole_connections(rt: HostRuntime) -> Result<(), Fail> {
     let alloc = rt.alloc();
@@ -111,7 +111,7 @@ fn reads_on_once_all_is_answered(rt: HostRuntime) -> Result<(), Fail> {
 
 const ADDITION: &[u8] = b"*5\r\n$4\r\nXADD\r\n$1\r\ns\r\n$1\r\n*\r\n$1\r\nf\r\n$1\r\nv\r\n";
 
-/// How long the stream `s` is, as it is told.
+/// The length of the stream `s`, from a reply.
 fn told_length(rt: &impl Wait, alloc: Global, server: &mut OneThread) -> Result<Vec<u8>, Fail> {
     let mut writer = sips(alloc)?;
     let mut reader = dribble(b"*2\r\n$4\r\nXLEN\r\n$1\r\ns\r\n");
@@ -119,7 +119,7 @@ fn told_length(rt: &impl Wait, alloc: Global, server: &mut OneThread) -> Result<
     Ok(writer.into_inner().bytes)
 }
 
-// Each of three replies has 12 bytes. The writer answers an error, or takes none.
+// Each of three replies has 12 bytes. The writer returns an error, or takes none.
 #[test]
 fn tells_of_each_failed_write_of_a_reply(rt: HostRuntime) -> Result<(), Fail> {
     let alloc = rt.alloc();
@@ -149,7 +149,7 @@ fn tells_of_each_failed_write_of_a_reply(rt: HostRuntime) -> Result<(), Fail> {
     Ok(())
 }
 
-/// Whether these are the bytes that the two requests are answered, one allocation of which was refused.
+/// Whether these are the bytes that answer the two requests if one allocation was refused.
 fn is_answer(served: Result<Ending, AheadFault>, bytes: &[u8]) -> bool {
     match served {
         Ok(Ending::Closed) => {
@@ -162,8 +162,8 @@ fn is_answer(served: Result<Ending, AheadFault>, bytes: &[u8]) -> bool {
     }
 }
 
-// With any one allocation refused, a request is answered OOM or the connection ends behind the replies to the
-// requests before, and the same connection again is answered.
+// With any one allocation refused, a request is answered OOM or the connection ends after the replies to the requests
+// before, and the same connection again is answered.
 #[test]
 fn a_refused_connection_is_served_again(rt: HostRuntime) -> Result<(), Fail> {
     let alloc = rt.alloc();

@@ -1,4 +1,4 @@
-//! Whole connections over TCP, both ends of which are in one thread.
+//! Complete connections over TCP, both ends of which are in one thread.
 use super::sessions::whole_connections;
 use super::*;
 use crate::tests::fakes::OneThread;
@@ -19,7 +19,7 @@ struct Prompted<'a> {
     incoming: FromRead<Incoming<HostRuntime>>,
 }
 
-/// Sends the first of the parts that are left, and leaves the others; where none is left, ends what is sent.
+/// Sends the first of the parts that are left, and leaves the others; if none is left, shuts down the sending side.
 fn send_part<'a>(client: &TcpStream, parts: &mut &'a [&'a [u8]]) -> io::Result<()> {
     let mut client = client;
     match *parts {
@@ -92,7 +92,7 @@ fn a_gate_ends_with_its_listener_alone(rt: HostRuntime) {
     }
 }
 
-/// How often a look is made for what has come.
+/// The number of looks for what has come.
 const LOOKS: u32 = 2000;
 
 /// Whether looks find, within two seconds, that the client has left.
@@ -106,7 +106,7 @@ fn is_seen_to_leave(rt: &HostRuntime, peer: &Peer) -> bool {
     false
 }
 
-// A client that leaves behind nothing, half a request, and whole ones. What it sent is read afterwards, then the end.
+// A client that leaves after nothing, half a request, and complete ones. What it sent is read afterwards, then the end.
 // The next client of the same halves gets nothing of it.
 #[test]
 fn a_client_that_leaves_is_seen(rt: HostRuntime) -> Result<(), Fail> {

@@ -1,4 +1,4 @@
-//! Readers and writers of std that give and take a few bytes at a time: the wrappers invent no fault.
+//! Readers and writers of std that give and take a few bytes at a time: the wrappers add no fault.
 use super::of_bytes::run_bytes;
 use super::*;
 

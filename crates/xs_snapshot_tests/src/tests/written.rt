@@ -1,4 +1,4 @@
-//! A snapshot of a keyspace is written as another program wrote it.
+//! Writes a snapshot of a keyspace, and compares it with the one that another program wrote.
 ghost use Rattle.std.specs.Prelude.{IfOk};
 ghost use Rattle.xs_command.specs.WellFormed.{IsWellFormed};
 
@@ -16,8 +16,8 @@ use xs_tape::MemoryTape;
 /// More calls than are made.
 const ALL: u64 = 1_000;
 
-/// What is applied, each at its moment. A stream keeps two of three entries, and one of its consumers has no row; of
-/// another stream nothing is left but its top.
+/// The commands that are applied, each at its moment. Of one stream two of three entries are left, and one of its
+/// consumers has no row; of another stream only its top is left.
 const HISTORY: [(u64, &str); 10] = [
     (1, "XADD s 1-1 f v"),
     (2, "XADD s 2-0 f w"),
@@ -31,7 +31,7 @@ const HISTORY: [(u64, &str); 10] = [
     (9, "XDEL a 5-0"),
 ];
 
-/// The records of the snapshot with number 4, whose last event came at 9, with checksums that another program made.
+/// The records of the snapshot with number 4, whose last event is at 9, with checksums made by another program.
 const RECORDS: [&str; 11] = [
     "*7\r\n$2\r\n63\r\n$11\r\nxs-snapshot\r\n$10\r\n1366969612\r\n$1\r\n1\r\n$1\r\n4\r\n$1\r\n1\r\n$1\r\n9\r\n",
     "*10\r\n$2\r\n73\r\n$3\r\nKEY\r\n$9\r\n711448573\r\n$1\r\na\r\n$1\r\n5\r\n$1\r\n0\r\n$1\r\n\
@@ -73,7 +73,7 @@ fn apply(alloc: Global, keyspace: &mut Keyspace, millis: u64, line: &str) -> Res
     Ok(())
 }
 
-/// The keyspace that the history leaves.
+/// The keyspace after the history.
 fn keyspace_left(alloc: Global) -> Result<Keyspace, Fail> {
     let mut keyspace = Keyspace::new(alloc);
     for (millis, line) in HISTORY {

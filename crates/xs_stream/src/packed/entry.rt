@@ -1,4 +1,4 @@
-//! Entries as they stand in bytes.
+//! Entries as they are stored in bytes.
 ghost use Rattle.std.specs.Prelude.{◌≡◌, ◌++◌, ◌+◌, ◌<◌, ◌≤◌, ℕ, IfSome, OnOk, OnErr, length, take, vec_len};
 ghost use Rattle.std.specs.Prelude.{true, false};
 ghost use Rattle.std.specs.List.{flat_map};
@@ -45,7 +45,7 @@ pub(crate) fn read_entry<'a>(base: u64, bytes: &'a [u8]) -> PackedEntry<'a>
     read_any_entry(base, bytes)
 }
 
-/// As `read_entry`, whatever the numbers.
+/// Like `read_entry`, for numbers of any size.
 #[tactic(auto, unfolding(crate::specs::Packed::entry_id, crate::specs::Packed::entry_body, crate::specs::Packed::after_entry))]
 #[inline(always)]
 fn read_any_entry<'a>(base: u64, bytes: &'a [u8]) -> PackedEntry<'a>
@@ -64,7 +64,7 @@ fn read_any_entry<'a>(base: u64, bytes: &'a [u8]) -> PackedEntry<'a>
 }
 
 /// The bytes after an entry that takes one byte for each number, and is fewer than `ms` milliseconds above the base, or
-/// as many with a sequence number below `seq`. None for each other entry, and near the end of a block.
+/// exactly `ms` with a sequence number below `seq`. None for any other entry, and near the end of a block.
 #[tactic(auto, unfolding(crate::specs::Packed::first_ms, crate::specs::Packed::entry_id, crate::specs::Packed::after_entry, crate::specs::PackedText::after_text, crate::specs::PackedNumber::first_number, crate::specs::PackedNumber::after_number))]
 #[inline(always)]
 pub(crate) fn after_early_entry(bytes: &[u8], ms: u8, seq: u8) -> Option<&[u8]>
@@ -75,7 +75,8 @@ pub(crate) fn after_early_entry(bytes: &[u8], ms: u8, seq: u8) -> Option<&[u8]>
     ensures seq { IfSome result (λ _. (base : ℕ) → base + ms ≤ (entry_id base bytes.now).ms
         → (entry_id base bytes.now).seq < seq) }
 {
-    // If as many bytes are left, no length of one byte leads past the end: this one test does for the whole entry.
+    // If this many bytes are left, no length of one byte leads beyond the end: this one test is enough for the whole
+    // entry.
     if bytes.len() < 255 {
         return None;
     }
@@ -117,7 +118,7 @@ pub(crate) fn has_names(names: &[u8], fields: &[Field]) -> bool
     true
 }
 
-/// How many bytes the names of fields take.
+/// The number of bytes of the names of fields.
 fn names_size(fields: &[Field]) -> Option<u64>
     ensures { IfSome result (λ size. size ≡ length (names_code fields.now)) }
 {
@@ -128,7 +129,7 @@ fn names_size(fields: &[Field]) -> Option<u64>
     Some(size)
 }
 
-/// Appends the names of fields after their length. A refusal may leave a part behind.
+/// Appends the names of fields after their length. If memory runs out, a part may be appended.
 pub(crate) fn push_names(out: &mut Vec<u8>, fields: &[Field]) -> Result<(), AllocError>
     ensures { OnOk result (out.new.items ≡ out.old.items ++ text_code (names_code fields.now)) }
 {
@@ -153,7 +154,7 @@ fn mark_of(shared: bool, fields: &[Field]) -> Option<u64>
     (fields.len() as u64).checked_add(1)
 }
 
-/// How many bytes the values of fields take, each behind its length. None if they are too many for a number.
+/// The number of bytes of the values of fields, each after its length. None if they are too many for a number.
 pub(crate) fn values_size(fields: &[Field]) -> Option<u64>
     ensures { IfSome result (λ size. size ≡ length (flat_map (field_code true) fields.now)) }
 {
@@ -164,7 +165,7 @@ pub(crate) fn values_size(fields: &[Field]) -> Option<u64>
     Some(size)
 }
 
-/// How many bytes the fields of an entry take whose values take so many.
+/// The number of bytes of the fields of an entry whose values take `values` bytes.
 #[tactic(auto, unfolding(crate::specs::Packed::body_code, crate::specs::PackedNumber::number_code))]
 fn body_size(shared: bool, values: u64, fields: &[Field]) -> Option<u64>
     requires { values ≡ length (flat_map (field_code true) fields.now) }
@@ -176,7 +177,7 @@ fn body_size(shared: bool, values: u64, fields: &[Field]) -> Option<u64>
     full_size(fields)
 }
 
-/// How many bytes the fields of an entry take with their names.
+/// The number of bytes of the fields of an entry with their names.
 fn full_size(fields: &[Field]) -> Option<u64>
     ensures { IfSome result (λ size. size ≡ length (body_code false fields.now)) }
 {
@@ -194,7 +195,7 @@ fn field_size(field: &Field) -> Option<u64>
     text_size(field.name.as_slice())?.checked_add(size)
 }
 
-/// Appends a field, or its value alone. A refusal may leave a part behind.
+/// Appends a field, or only its value. If memory runs out, a part may be appended.
 fn push_field(out: &mut Vec<u8>, shared: bool, field: &Field) -> Result<(), AllocError>
     ensures ok { OnOk result (out.new.items ≡ out.old.items ++ field_code shared field.now) }
     ensures err { OnErr result (take (vec_len out.old) out.new.items ≡ out.old.items) }
@@ -205,7 +206,7 @@ fn push_field(out: &mut Vec<u8>, shared: bool, field: &Field) -> Result<(), Allo
     push_text(out, field.value.as_slice())
 }
 
-/// Appends the fields of an entry. A refusal may leave a part behind.
+/// Appends the fields of an entry. If memory runs out, a part may be appended.
 fn push_body(out: &mut Vec<u8>, shared: bool, fields: &[Field]) -> Result<(), AllocError>
     ensures ok { OnOk result (out.new.items ≡ out.old.items ++ body_code shared fields.now) }
     ensures err { OnErr result (take (vec_len out.old) out.new.items ≡ out.old.items) }
@@ -220,7 +221,7 @@ fn push_body(out: &mut Vec<u8>, shared: bool, fields: &[Field]) -> Result<(), Al
     Ok(())
 }
 
-/// Appends an entry whose values take so many bytes. A refusal may leave a part behind.
+/// Appends an entry whose values take `values` bytes. If memory runs out, a part may be appended.
 pub(crate) fn push_entry(
     out: &mut Vec<u8>,
     base: u64,
@@ -243,7 +244,7 @@ pub(crate) fn push_entry(
     Ok(())
 }
 
-/// Appends an entry whose fields are packed. A refusal may leave a part behind.
+/// Appends an entry whose fields are packed. If memory runs out, a part may be appended.
 pub(crate) fn push_packed(
     out: &mut Vec<u8>,
     base: u64,

@@ -1,4 +1,4 @@
-//! Fields as they stand in bytes.
+//! Fields as they are stored in bytes.
 ghost use Rattle.std.specs.Prelude.{◌≡◌, ◌∷◌, [], length};
 ghost use Rattle.std.specs.Iterator.{YieldsFirst, item_count};
 
@@ -6,7 +6,7 @@ use crate::packed::number::read_number;
 use crate::packed::text::read_text;
 use std::marker::Model;
 
-/// A field that stands in bytes. A contract sees it as a field.
+/// A field that is stored in bytes. A contract sees it as a field.
 #[derive(Drop)]
 pub struct FieldView<'a> {
     name: &'a [u8],
@@ -37,11 +37,11 @@ impl<'a> FieldView<'a> {
     }
 }
 
-/// The fields of an entry, as they stand in a block: an iterator over them. A contract sees the list of those that
-/// are left.
+/// The fields of an entry, as a block stores them: an iterator over them. A contract sees the list of those that are
+/// left.
 #[derive(Drop)]
 pub struct PackedFields<'a> {
-    /// Whether the names stand apart from the values.
+    /// Whether the names are stored apart from the values.
     shared: bool,
     left: u64,
     names: &'a [u8],
@@ -61,7 +61,7 @@ impl<'a> Model for PackedFields<'a> {
 impl<'a> PackedFields<'a> {
     ghost use Rattle.xs_stream.specs.Packed.{body_fields};
 
-    /// The fields that a body holds, some of whose names may stand in `names`.
+    /// The fields of a body, some of whose names may be in `names`.
     #[tactic(auto, unfolding(crate::specs::Packed::body_fields))]
     pub(crate) fn new(names: &'a [u8], body: &'a [u8]) -> Self
         ensures { result ≡ body_fields names.now body.now }
@@ -84,7 +84,7 @@ impl<'a> PackedFields<'a> {
         }
     }
 
-    /// The same fields, once more.
+    /// A second iterator over the same fields.
     pub fn again(&self) -> Self
         ensures { result ≡ self.now }
     {
@@ -96,7 +96,7 @@ impl<'a> PackedFields<'a> {
         }
     }
 
-    /// How many are left.
+    /// The number of fields that are left.
     pub fn count_left(&self) -> u64
         ensures { result ≡ length self.now }
     {

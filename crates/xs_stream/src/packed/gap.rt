@@ -1,11 +1,11 @@
-//! Parts of bytes that are taken out.
+//! Removal of parts of bytes.
 ghost use Rattle.std.specs.Prelude.{◌≡◌, ◌+◌, ◌-◌, ◌≤◌, ◌++◌, take, drop, vec_len};
 ghost use Rattle.std.specs.List.{remove_range};
 
-/// How many bytes move at once.
+/// The number of bytes that move at once.
 const GAP_BYTES: usize = 512;
 
-/// Takes a part out, and gives memory back where less than half of it is left.
+/// Removes a part, and gives memory back if less than half of it is left.
 pub(crate) fn cut(bytes: &mut Vec<u8>, from: usize, to: usize)
     requires forward { from ≤ to }
     requires inside { to ≤ vec_len bytes.old }
@@ -17,8 +17,8 @@ pub(crate) fn cut(bytes: &mut Vec<u8>, from: usize, to: usize)
     }
 }
 
-/// Takes a part out. What lies behind it moves in pieces, each at once: the library's own ways move byte by byte, or
-/// clear a great room on the stack.
+/// Removes a part. The bytes after it move in pieces, each at once: the library's own calls move byte by byte, or clear
+/// a large room on the stack.
 fn close_gap(bytes: &mut Vec<u8>, from: usize, to: usize)
     requires forward { from ≤ to }
     requires inside { to ≤ vec_len bytes.old }
@@ -51,8 +51,8 @@ fn move_piece(bytes: &mut Vec<u8>, at: usize, gap: usize, piece: usize)
     bytes.as_mut_slice()[at..at + piece].copy_from_slice(held);
 }
 
-/// Takes a part out of what begins at `start`, and says where that begins then. The fewer bytes move: those before the
-/// part, or those behind it.
+/// Removes a part of what begins at `start`, and returns where that begins then. The fewer bytes are moved: those
+/// before the part, or those after it.
 pub(crate) fn take_out(bytes: &mut Vec<u8>, start: usize, from: usize, to: usize) -> usize
     requires begin { start ≤ from }
     requires forward { from ≤ to }
@@ -70,7 +70,7 @@ pub(crate) fn take_out(bytes: &mut Vec<u8>, start: usize, from: usize, to: usize
     start
 }
 
-/// Takes a part out by moving what lies before it, from `start` on, up over it.
+/// Removes a part by moving the bytes before it, from `start` on, up over it.
 fn raise(bytes: &mut Vec<u8>, start: usize, from: usize, to: usize)
     requires begin { start ≤ from }
     requires forward { from ≤ to }
@@ -91,7 +91,7 @@ fn raise(bytes: &mut Vec<u8>, start: usize, from: usize, to: usize)
     }
 }
 
-/// Moves a piece up over a gap behind it, by way of the stack.
+/// Moves a piece up over a gap after it, by way of the stack.
 fn raise_piece(bytes: &mut Vec<u8>, at: usize, gap: usize, piece: usize)
     requires short { piece ≤ 512 }
     requires inside { at + gap + piece ≤ vec_len bytes.old }

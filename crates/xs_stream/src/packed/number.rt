@@ -1,11 +1,11 @@
-//! Numbers in few bytes: one byte below 253, otherwise a byte that says how many follow.
+//! Numbers in few bytes: one byte below 253, otherwise a byte that determines how many follow.
 ghost use Rattle.std.specs.Prelude.{◌≡◌, ◌≤◌, ◌++◌, ◌∷◌, OnOk, OnErr, length, drop, slice_index};
 ghost use Rattle.std.specs.Int.{w16, w32, w64, from_le_bytes};
 ghost use Rattle.xs_stream.specs.PackedNumber.{number_code, first_number, after_number};
 
 use std::alloc::AllocError;
 
-/// How many bytes a number takes.
+/// The number of bytes that a number takes.
 #[tactic(auto, unfolding(crate::specs::PackedNumber::number_code))]
 pub(crate) fn number_size(n: u64) -> u64
     ensures { result ≡ length (number_code n) }
@@ -22,7 +22,7 @@ pub(crate) fn number_size(n: u64) -> u64
     9
 }
 
-/// Appends a number. `out` keeps what it had on refusal.
+/// Appends a number. If memory runs out, `out` is unchanged.
 #[tactic(auto, unfolding(crate::specs::PackedNumber::number_code))]
 #[inline(always)]
 pub(crate) fn push_number(out: &mut Vec<u8>, n: u64) -> Result<(), AllocError>
@@ -35,7 +35,7 @@ pub(crate) fn push_number(out: &mut Vec<u8>, n: u64) -> Result<(), AllocError>
     push_long_number(out, n)
 }
 
-/// Appends a number that takes more than one byte. `out` keeps what it had on refusal.
+/// Appends a number that takes more than one byte. If memory runs out, `out` is unchanged.
 #[tactic(auto, unfolding(crate::specs::PackedNumber::number_code))]
 fn push_long_number(out: &mut Vec<u8>, n: u64) -> Result<(), AllocError>
     requires { 253 ≤ n }
@@ -72,7 +72,7 @@ pub(crate) fn read_number(bytes: &[u8]) -> (u64, &[u8])
     }
 }
 
-/// As `read_number`, for numbers that mostly take two bytes more.
+/// Like `read_number`, for numbers that mostly take two bytes more.
 #[tactic(auto, unfolding(crate::specs::PackedNumber::first_number, crate::specs::PackedNumber::after_number))]
 #[inline(always)]
 pub(crate) fn read_wide_number(bytes: &[u8]) -> (u64, &[u8])
@@ -87,7 +87,7 @@ pub(crate) fn read_wide_number(bytes: &[u8]) -> (u64, &[u8])
     read_number(bytes)
 }
 
-/// The number that follows a byte that says how long it is, and the bytes after it.
+/// The number after a byte that determines its length, and the bytes after it.
 #[tactic(auto, unfolding(crate::specs::PackedNumber::first_number, crate::specs::PackedNumber::after_number))]
 #[cold]
 fn read_long_number(first: u8, rest: &[u8]) -> (u64, &[u8])
@@ -136,7 +136,7 @@ fn first_u64(bytes: &[u8]) -> u64
     ])
 }
 
-/// A byte, or 0 past the end.
+/// A byte, or 0 beyond the end.
 fn byte(bytes: &[u8], at: usize) -> u8
     ensures { result ≡ slice_index bytes.now at }
 {
@@ -146,7 +146,7 @@ fn byte(bytes: &[u8], at: usize) -> u8
     }
 }
 
-/// The bytes after these many.
+/// The bytes after the first `count`.
 pub(crate) fn after(bytes: &[u8], count: usize) -> &[u8]
     ensures { result.now ≡ drop count bytes.now }
 {

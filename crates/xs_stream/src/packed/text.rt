@@ -6,7 +6,7 @@ use crate::packed::number::{number_size, push_number, read_wide_number};
 use std::alloc::AllocError;
 
 #[tactic(auto, unfolding(crate::specs::PackedText::text_code))]
-/// How many bytes a text takes with its length. None where they are too many for a number.
+/// The number of bytes of a text with its length. None if they are too many for a number.
 pub(crate) fn text_size(text: &[u8]) -> Option<u64>
     ensures { IfSome result (λ size. size ≡ length (text_code text.now)) }
 {
@@ -14,7 +14,7 @@ pub(crate) fn text_size(text: &[u8]) -> Option<u64>
     number_size(len).checked_add(len)
 }
 
-/// Appends a text after its length. A refusal may leave a part behind.
+/// Appends a text after its length. If memory runs out, a part may be appended.
 #[tactic(auto, unfolding(crate::specs::PackedText::text_code))]
 #[inline(always)]
 pub(crate) fn push_text(out: &mut Vec<u8>, text: &[u8]) -> Result<(), AllocError>
@@ -41,7 +41,7 @@ pub(crate) fn read_text(bytes: &[u8]) -> (&[u8], &[u8])
     read_any_text(bytes)
 }
 
-/// As `read_text`, whatever the length.
+/// Like `read_text`, for any length.
 #[tactic(auto, unfolding(crate::specs::PackedText::first_text, crate::specs::PackedText::after_text))]
 #[cold]
 fn read_any_text(bytes: &[u8]) -> (&[u8], &[u8])

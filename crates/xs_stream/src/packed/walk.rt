@@ -7,12 +7,12 @@ use crate::packed::entry::read_entry;
 use crate::packed::fields::PackedFields;
 use std::marker::Model;
 
-/// The entries of a block that a walk has before it, one behind the other. A contract sees the list of them.
+/// The entries of a block that are ahead of a walk, one after the other. A contract sees the list of them.
 #[derive(Drop)]
 pub(crate) struct BlockWalk<'a> {
     /// The milliseconds over which they are packed.
     pub(crate) base: u64,
-    /// How many there are.
+    /// The number of entries.
     pub(crate) left: usize,
     /// The names that the block has once.
     pub(crate) names: &'a [u8],
@@ -32,7 +32,7 @@ impl<'a> Model for BlockWalk<'a> {
 }
 
 impl<'a> BlockWalk<'a> {
-    /// A walk with nothing before it.
+    /// A walk with no entries ahead.
     pub(crate) fn over_nothing() -> Self
         ensures { result ≡ [] }
     {

@@ -1,4 +1,4 @@
-//! Walks over the entries of a block, which lie behind one another from `start` on.
+//! Walks over the entries of a block, which are one after another from `start` on.
 ghost use Rattle.std.specs.Prelude.{◌≡◌, ◌+◌, ◌-◌, ◌<◌, ◌≤◌, ◌++◌};
 ghost use Rattle.std.specs.Prelude.{IfSome, OnOk, OnErr, length, vec_len, filter, take, drop};
 ghost use Rattle.std.specs.List.{remove};
@@ -18,14 +18,14 @@ use crate::packed::text::read_text;
 use crate::range::Range;
 use std::alloc::AllocError;
 
-/// Where an entry stands.
+/// The place of an entry.
 #[derive(Drop)]
 pub(crate) struct Place {
-    /// How many entries lie before it.
+    /// The number of entries before it.
     pub(crate) index: usize,
-    /// Where its first byte lies.
+    /// The index of its first byte.
     pub(crate) from: usize,
-    /// Where the bytes behind it begin.
+    /// The index of the bytes after it.
     pub(crate) to: usize,
 }
 
@@ -34,17 +34,17 @@ pub(crate) struct Place {
 pub(crate) struct PackedEntries<'a> {
     /// The milliseconds over which they are packed.
     pub(crate) base: u64,
-    /// How many there are.
+    /// The number of entries.
     pub(crate) count: usize,
-    /// Where they begin.
+    /// The index of the first entry.
     pub(crate) start: usize,
     /// Names, and then the entries.
     pub(crate) bytes: &'a [u8],
 }
 
 impl<'a> PackedEntries<'a> {
-    /// Passes over entries at the front that are below an id, and gives how many, and the bytes after them. It may stop
-    /// early: it passes over no entry whose numbers take more than a byte each.
+    /// Skips entries at the front that are below an id. Returns their number, and the bytes after them. It may stop
+    /// early: it skips no entry whose numbers take more than a byte each.
     fn pass_below(&self, low: Id) -> (usize, &'a [u8])
         ensures few { result.0 ≤ self.now.count }
         ensures rest { result.1.now ≡ after_entries result.0 (drop self.now.start self.now.bytes.now) }
@@ -81,7 +81,7 @@ impl<'a> PackedEntries<'a> {
         None
     }
 
-    /// Where the first entry with this id stands.
+    /// The place of the first entry with this id.
     pub(crate) fn place_of(&self, id: Id) -> Option<Place>
         ensures index { IfSome result (λ p. p.index < self.now.count) }
         ensures from { IfSome result (λ p. p.from ≡ length self.now.bytes.now
@@ -105,7 +105,7 @@ impl<'a> PackedEntries<'a> {
         None
     }
 
-    /// How many entries have ids below this one.
+    /// The number of entries with ids below this one.
     pub(crate) fn count_below(&self, low: Id) -> usize
         ensures { result ≡ length (filter (λ e. is_below e.0 low) (unpacked_entries self.now)) }
     {
@@ -164,7 +164,8 @@ impl<'a> PackedEntries<'a> {
     }
 }
 
-/// Appends entries that are packed over a base as they are packed over another one. A refusal may leave a part behind.
+/// Appends entries that are packed over a base as they are packed over another one. If memory runs out, a part may be
+/// appended.
 pub(crate) fn push_rebased(
     out: &mut Vec<u8>,
     base: u64,
@@ -184,7 +185,7 @@ pub(crate) fn push_rebased(
     Ok(())
 }
 
-/// The bytes after these many entries.
+/// The bytes after this many entries.
 pub(crate) fn after_entries(base: u64, bytes: &[u8], count: usize) -> &[u8]
     ensures { result.now ≡ after_entries count bytes.now }
 {

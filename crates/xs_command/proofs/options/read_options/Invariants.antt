@@ -2,6 +2,6 @@ use Rattle.std.proofs.Common.{◌≡◌, ◌-◌}
 use Rattle.xs_command.specs.Options.{many, up_to}
 use Rattle.xs_command.proofs.options.read_options.Given as goal
 
--- what is still read is what was to be read
+-- reading on gives what reading from the start gives
 abbrev pub invariant-loop-turn : goal.invariant-loop-turn
 invariant-loop-turn g l = up_to (l._turn-end - l._turn) g.S.Options.option l.state l.left ≡ many g.S.Options.option l.fn.none l.fn.words

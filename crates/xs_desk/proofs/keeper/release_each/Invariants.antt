@@ -3,7 +3,7 @@ use Rattle.xs_desk.specs.declared.lane_end.LaneEnd.{LaneEnd}
 use Rattle.xs_desk.specs.LaneEnds.{lane_of, handed_out}
 use Rattle.xs_desk.proofs.keeper.release_each.Given as goal
 
--- the lanes so far have handed all out
+-- the lanes so far have handed all answers out
 abbrev pub invariant-loop-k : goal.invariant-loop-k
 invariant-loop-k l = record {
   lanes : map lane_of l.lane_ends.items ≡ map lane_of l.fn.lane_ends.items;

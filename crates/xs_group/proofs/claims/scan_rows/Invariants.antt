@@ -3,7 +3,7 @@ use Rattle.xs_group.proofs.Terms.{is_hit, from_start, first_or_zero, rows_of, id
 use Rattle.xs_group.proofs.Scanning.{AreFound}
 use Rattle.xs_group.proofs.claims.scan_rows.Given as goal
 
--- what is found, with what the rest will bring, is what there is to find
+-- what is found so far and in the rest is what there is to find
 abbrev pub invariant-loop-id : goal.invariant-loop-id
 invariant-loop-id l =
     let rows = (rows_of l.rows.entries).entries in

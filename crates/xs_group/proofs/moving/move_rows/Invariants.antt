@@ -2,7 +2,7 @@ use Rattle.xs_group.proofs.Terms.{◌≡◌, ℕ, List, map, option_and_then, in
 use Rattle.xs_group.proofs.Terms.{row_after_move, AreDistinct, AreAgreedBut}
 use Rattle.xs_group.proofs.moving.move_rows.Given as goal
 
--- what is left to do makes of the rows what all was to make of them
+-- what is left to do gives the final rows
 abbrev pub invariant-loop-share : goal.invariant-loop-share
 invariant-loop-share l = record {
   left : into_iter_items l.share-iterator ≡ map (λ x. l.fn.name) l.todo;

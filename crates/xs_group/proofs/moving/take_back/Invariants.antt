@@ -3,7 +3,7 @@ use Rattle.xs_group.proofs.Terms.{seen_at}
 use Rattle.xs_group.proofs.Terms.{is_owner, indexed_row}
 use Rattle.xs_group.proofs.moving.take_back.Given as goal
 
--- the ids so far are taken back, and the moments are the same
+-- the ids so far are given back, and the moments are the same
 abbrev pub invariant-loop-id : goal.invariant-loop-id
 invariant-loop-id l = record {
   seen : (n : List ℕ) → seen_at l.owners.entries n ≡ seen_at l.fn.owners.entries n;

@@ -2,7 +2,7 @@ use Rattle.xs_group.proofs.Terms.{◌≡◌, ◌++◌, List, map, Id, RowState, 
 use Rattle.xs_group.proofs.ReportRows.{AreHeld, report}
 use Rattle.xs_group.proofs.reports.consumers_of.Given as goal
 
--- what is found, and what the rest will bring, are the reports of all
+-- the reports so far and those of the rest are the reports of all
 abbrev pub invariant-loop-name : goal.invariant-loop-name
 invariant-loop-name l = record {
   held : AreHeld l.owners.entries l.name-iterator;

@@ -3,7 +3,7 @@ use Rattle.xs_group.proofs.Terms.{counts_of_owners}
 use Rattle.xs_group.proofs.ReportRows.{AreHeld}
 use Rattle.xs_group.proofs.reports.owner_counts.Given as goal
 
--- what is counted, and what the rest will bring, is what is told
+-- what is counted so far and in the rest is the result
 abbrev pub invariant-loop-name : goal.invariant-loop-name
 invariant-loop-name l = record {
   held : AreHeld l.owners.entries l.name-iterator;

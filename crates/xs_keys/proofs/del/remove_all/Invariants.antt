@@ -3,7 +3,7 @@ use Rattle.xs_keys.specs.ContentAfter.{without_keys}
 use Rattle.xs_keys.specs.Reply.{existing_count}
 use Rattle.xs_keys.proofs.del.remove_all.Given as goal
 
--- what is left to do leads to what all would
+-- removing what is left gives the final content
 abbrev pub invariant-loop-name : goal.invariant-loop-name
 invariant-loop-name l =
     let rest = drop l.name-index l.names in

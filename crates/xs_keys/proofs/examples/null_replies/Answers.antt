@@ -3,7 +3,7 @@ use Rattle.xs_keys.specs.Terms.{Reply, NullArray}
 use Rattle.xs_keys.proofs.Computing.{example_functions}
 use Rattle.xs_keys.proofs.examples.null_replies.Goals as goal
 
--- tells the null array from any other reply
+-- distinguishes the null array from any other reply
 kind : Reply → ℕ
 kind NullArray = 0
 kind _ = 1

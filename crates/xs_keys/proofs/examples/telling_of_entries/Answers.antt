@@ -5,7 +5,7 @@ use Rattle.xs_keys.specs.ReplyParts.{array, field_replies}
 use Rattle.xs_keys.specs.PlayedLines.{id as id_told}
 use Rattle.xs_keys.proofs.examples.telling_of_entries.Goals as goal
 
--- how many tokens a reply has behind its header
+-- the number of tokens of a reply after its header
 size_of : Reply → ℕ
 size_of (Array items) = length items.tokens
 size_of _ = 0

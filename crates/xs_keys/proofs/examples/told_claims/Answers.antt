@@ -11,17 +11,17 @@ use Rattle.xs_keys.proofs.Computing.{example_functions}
 use Rattle.xs_keys.proofs.Assigning.{assigned-claim, assigned-scan}
 use Rattle.xs_keys.proofs.examples.told_claims.Goals as goal
 
--- how many items a reply has
+-- the number of items of a reply
 count_of : Reply → ℕ
 count_of (Array items) = items.count
 count_of _ = 0
 
--- tells the null array from any other reply
+-- distinguishes the null array from any other reply
 kind : Reply → ℕ
 kind NullArray = 0
 kind _ = 1
 
--- where an id is told, there is an item
+-- if an id is reported, there is an item
 one_told : (Tells : Id → Reply → Type 0) (x : Id) (xs : List Id) (told : List Reply) → array [] ≡ array told → TellsEach Tells (x ∷ xs) told → ⊥
 unfolding count_of
 one_told Tells x xs [] is each = each

@@ -17,18 +17,18 @@ use Rattle.xs_keys.proofs.Computing.{example_functions}
 use Rattle.xs_keys.proofs.Tellings.{shows-first}
 use Rattle.xs_keys.proofs.examples.told_reads.Goals as goal
 
--- tells the null array from any other reply
+-- distinguishes the null array from any other reply
 kind : Reply → ℕ
 kind NullArray = 0
 kind _ = 1
 
--- where a part is told, the reply isn't the null array
+-- if a part is reported, the reply isn't the null array
 part_told : (told first rest : List Reply) (x : Reply) → NullArray ≡ array_or_null told → told ≡ first ++ rest → first ≡ x ∷ [] → rest ≡ [] → ⊥
 unfolding kind
 part_told told first rest x is_null all is_first is_rest =
     omega (arith, ap kind (is_null ∙ ap array_or_null (all ∙ ap (λ f. f ++ rest) is_first ∙ ap (λ r. (x ∷ []) ++ r) is_rest)))
 
--- how many entries the first stream of a reply has
+-- the number of entries of the first stream of a reply
 entries_in : Reply → ℕ
 entries_in (Array items) = by items.tokens where
   by : List Token → ℕ
@@ -40,13 +40,13 @@ stream_told : (told first rest entries : List Reply) → array (stream (codes "s
 unfolding entries_in
 stream_told told first rest entries is all is_first = ap entries_in (is ∙ ap array_or_null (all ∙ ap (λ f. f ++ rest) is_first))
 
--- without entries no id is told
+-- without entries no id is reported
 none_told : (Tells : Id → Reply → Type 0) (ids : List Id) (entries : List Reply) → 0 ≡ length entries → has_id ids (at 2 0) ≡ true → TellsEach Tells ids entries → ⊥
 none_told Tells [] entries none has each = false≢true has
 none_told Tells (x ∷ xs) [] none has each = each
 none_told Tells (x ∷ xs) (first ∷ rest) none has each = omega (arith, none)
 
--- what must be among all of its own is among them
+-- what has to be among all of its own is among them
 all_own : {A : Type 0} (b : Bool) → (b ≡ true) ⊎ A → (A → ⊥) → b ≡ true
 all_own b (inl e) other = e
 all_own b (inr a) other = absurd (other a)

@@ -1,4 +1,4 @@
--- The commands that don't ask for the time are a step at any moment, and so at this one.
+-- The commands that don't depend on the time are a step at any moment, and so at this one.
 use Rattle.xs_keys.proofs.keyspace.apply_to.Goals as goal
 
 pub returns-in-Ping : goal.returns-in-Ping

@@ -3,7 +3,7 @@ use Rattle.xs_bytes.specs.SortedMap as maps
 use Rattle.xs_group.specs.GroupRoom.{room_of_group}
 use Rattle.xs_keys.proofs.xgroup.insert_group.Goals as goal
 
--- a new group is counted with little
+-- the count of a new group is small
 pub overflow_add-room : goal.overflow_add-room
 unfolding maps.empty
 overflow_add-room c =

@@ -5,7 +5,7 @@ use Rattle.xs_resp.specs.ReplyItems.{tokens_of}
 use Rattle.xs_keys.specs.Inspecting.{group_reply}
 use Rattle.xs_keys.proofs.xinfo.push_groups.Given as goal
 
--- what is appended and what the rest will bring is all
+-- what is appended so far and for the rest is all
 abbrev pub invariant-loop-name : goal.invariant-loop-name
 invariant-loop-name l =
     let shown = group_reply (state_of l.slot.stream) in

@@ -5,7 +5,7 @@ use Rattle.xs_resp.specs.ReplyItems.{tokens_of}
 use Rattle.xs_keys.specs.InspectingInFull.{whole_group_reply}
 use Rattle.xs_keys.proofs.xinfo_full.push_groups.Given as goal
 
--- what is appended and what the rest will bring is all
+-- what is appended so far and for the rest is all
 abbrev pub invariant-loop-name : goal.invariant-loop-name
 invariant-loop-name l =
     let shown = whole_group_reply l.asked.moment l.asked.limit (state_of l.slot.stream) in

@@ -13,7 +13,7 @@ use Rattle.xs_keys.proofs.Appending.{parts-appended}
 use Rattle.xs_keys.proofs.WholeStreams.{stream-whole}
 use Rattle.xs_keys.proofs.xinfo_full.stream_shown.Goals as goal
 
--- tokens with the groups of a key behind them
+-- tokens with the groups of a key after them
 abbrev shown_groups : List Token → ℕ → Option ℕ → KeyInMemory → List Token
 shown_groups tokens now limit key =
     tokens ++ flat_map tokens_of (listed_part (codes "groups") (map (whole_group_reply now limit (state_of key.stream)) key.groups.entries))

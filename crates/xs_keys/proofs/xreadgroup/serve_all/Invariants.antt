@@ -3,7 +3,7 @@ use Rattle.xs_keys.specs.Reading.{AreMade}
 use Rattle.xs_keys.proofs.ReadSteps.{Underway}
 use Rattle.xs_keys.proofs.xreadgroup.serve_all.Given as goal
 
--- the rest of the reads leads to where all of them would, and what is done can be taken back
+-- the rest of the reads gives the final content, and what is done can be undone
 abbrev pub invariant-loop-one : goal.invariant-loop-one
 invariant-loop-one l = record {
   underway : Underway l.now l.read l.reads l.initial.keys (drop l.one-index l.reads) l.keys l.tokens l.parts;

@@ -3,7 +3,7 @@ use Rattle.xs_keys.specs.Content.{Content}
 use Rattle.xs_keys.specs.Reading.{AreMade}
 use Rattle.xs_keys.proofs.xreadgroup.undo_all.Given as goal
 
--- what is left to take back leads back to where all would
+-- undoing what is left gives the content before all
 abbrev pub invariant-loop-delivery : goal.invariant-loop-delivery
 invariant-loop-delivery l =
     (first : Content) → AreMade l.group l.reads l.fn.deliveries.items first l.fn.keys

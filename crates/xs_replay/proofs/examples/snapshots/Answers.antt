@@ -19,7 +19,7 @@ zero_text : codes "0" ≡ decimal 0
 unfolding example_functions
 zero_text = refl
 
--- what is written before any event
+-- the snapshot before any event
 nothing-written : (requests : List (List (List ℕ))) → IsSnapshot 1 requests new_server → requests ≡ nothing_but (decimal 0)
 nothing-written requests is = is.stands ∙ ap (λ (pieces : List Piece). snapshot_header 1 None ∷ piece_records pieces) no_pieces
 

@@ -8,7 +8,7 @@ use Rattle.xs_replay.specs.ExamplesFolder.{served, after_two, no_snapshot, two_l
 use Rattle.xs_replay.proofs.Computing.{example_functions}
 use Rattle.xs_replay.proofs.examples.standing.Goals as goal
 
--- two logs are there behind two others
+-- two logs follow two others
 two : (n : ℕ) → 2 < n → n ≤ 4 → two_logs n ≡ Some (served n)
 two n low high = by (cases_eq n 3)
   where
@@ -23,7 +23,7 @@ no_more n low = grind (arith, nat_tests)
 abbrev moment_of : ServerState → ℕ
 moment_of state = option_map_or (λ moment. moment) state.moment 0
 
--- with the third snapshot alone the third log is missed
+-- with only the third snapshot the third log is missing
 third_missing : (is : HasServed (folder (put 3 (Some after_two) no_snapshot) the_last_log) served 4) → (is.below ≡ 3) ⊎ (is.below ≢ 3) → ⊥
 third_missing is (inl e) =
     let stands = subst (λ b. StandsFor served b (put 3 (Some after_two) no_snapshot (suc b))) e is.greatest in

@@ -4,7 +4,7 @@ use Rattle.xs_resp.specs.ReplyText.{token_text}
 use Rattle.xs_resp.specs.LeftToWrite.{strings_of}
 use Rattle.xs_resp.proofs.encoder.gather.Given as goal
 
--- what was appended, and the tokens that are left, are what there was
+-- what was appended and the tokens that are left are the tokens at the start
 abbrev pub invariant-loop-taken : goal.invariant-loop-taken
 invariant-loop-taken l = record {
   room : 65536 ≤ vec_capacity l.out;

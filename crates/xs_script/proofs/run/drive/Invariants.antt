@@ -5,7 +5,7 @@ use Rattle.xs_script.specs.Cause.{reads_limit}
 use Rattle.xs_script.specs.ScriptRun.{ScriptIsAfter}
 use Rattle.xs_script.proofs.run.drive.Given as goal
 
--- these bytes were read, and these written
+-- these bytes were read, and these were written
 abbrev pub invariant-turns : goal.invariant-turns
 invariant-turns g l = record {
   read : List ℕ;

@@ -4,8 +4,8 @@ use std::sync::Arc;
 use std::sync::atomic::{AtomicU64, Ordering};
 use std::thread;
 
-/// Gives some bytes, and then, once `counted` is at least `wants`, others and its end. It fails if that isn't so after
-/// so many looks, between which it yields its processor.
+/// Gives some bytes, and then, once `counted` is at least `wants`, others and its end. It fails if `counted` stays
+/// below that for a number of looks, between which it yields its processor.
 #[derive(Drop)]
 pub struct InTwo<'a> {
     pub first: &'a [u8],

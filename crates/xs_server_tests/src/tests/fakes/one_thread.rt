@@ -1,4 +1,4 @@
-//! A desk in one thread: whoever waits for an answer has its keeper take a turn.
+//! A desk in one thread: a client that waits for an answer has the keeper take a turn.
 use crate::tests::fakes::Still;
 use std::alloc::{AllocError, Global};
 use std::sync::{Mutex, Wait};
@@ -47,7 +47,7 @@ impl Attend for Beside {
     fn note(&self, _tally: Tally) {}
 }
 
-/// Serves connections, one after the other, as a worker of a desk does that has no other one.
+/// Serves connections, one after the other, like the only worker of a desk.
 #[derive(Drop)]
 pub struct OneThread {
     beside: Beside,
@@ -56,7 +56,7 @@ pub struct OneThread {
 }
 
 impl OneThread {
-    /// One over an empty keyspace.
+    /// A server over an empty keyspace.
     pub fn new(alloc: Global) -> Result<Self, Fail> {
         let (keeper, mut clients) = desk(alloc, 1, 64)?;
         Ok(Self {

@@ -1,10 +1,10 @@
-//! A clock that stands still.
+//! A clock that doesn't advance.
 ghost use Rattle.std.specs.Prelude.{◌≡◌};
 
 use xs_keys::Clock;
 use xs_stream::Moment;
 
-/// A clock that gives the same moment each time.
+/// A clock that always gives the same moment.
 #[derive(Clone, Copy)]
 pub struct Still {
     pub moment: Moment,

@@ -1,10 +1,10 @@
-//! A writer that counts whole texts.
+//! A writer that counts complete texts.
 use std::io::{self, ErrorKind, Write};
 use std::sync::Arc;
 use std::sync::atomic::{AtomicU64, Ordering};
 
-/// Counts how often this text was written whole, again and again. Any other byte spoils the count for good. It may fail
-/// at each call.
+/// Counts how often this text was written completely, again and again. Any other byte makes the count wrong for good.
+/// It may fail at each call.
 #[derive(Drop)]
 pub struct Tally {
     text: &'static [u8],

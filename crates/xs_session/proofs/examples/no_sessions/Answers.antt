@@ -77,12 +77,12 @@ both-of : (taken : List Taken) (word name : List ℕ) (words names : List (List 
 both-of taken word name words names (first, others, is, so, rest) =
     let last = one-of others name names rest in (first, last.0, is ∙ ap (λ o. first ∷ o) last.1, so, last.2)
 
--- what is said at once is an error
+-- an answer that is there at once is an error
 says-error : (words : List (List ℕ)) (reply : Reply) → IsTakenPlainly words (Says reply) → (fault : Fault) × (reply ≡ Error fault)
 says-error words reply (inl (fault, is, said)) = (fault, said)
 says-error words reply (inr memory) = (Memory, memory)
 
--- nothing is asked of what is no request yet
+-- nothing is asked for bytes that aren't a request yet
 none-asked : (read front rest : List ℕ) (requests : List (List (List ℕ))) (taken : List Taken) → BeginsNone read → SpellsAll front requests → AreTakenPlainly requests taken → read ≡ front ++ rest → ping ∷ [] ≡ asked_of taken → ⊥
 none-asked read front rest [] taken begins none are is asked = let never : ping ∷ [] ≡ [] = asked ∙ ap asked_of are in cc
 none-asked read front rest (words ∷ requests) taken begins (first, others, split, s, all) are is asked = begins first (others ++ rest) words (is ∙ ap (λ f. f ++ rest) split ∙ append_assoc first others rest) s

@@ -4,7 +4,7 @@ use Rattle.xs_command.specs.WellFormed.{IsWellFormed}
 use Rattle.xs_command.specs.Words.{Gives}
 use Rattle.xs_session.proofs.releasing.command_of.Given as goal
 
--- what was read last is what the words say
+-- the last reading is that of the words
 abbrev pub invariant-loop-said : goal.invariant-loop-said
 invariant-loop-said l = Gives l.said (command_of_words l.fn.words) × IfOk l.said IsWellFormed
 

@@ -1,7 +1,7 @@
 use Rattle.std.proofs.Common.{◌-◌, ◌≤◌, length}
 use Rattle.xs_session.proofs.reserve.add_pieces.Given as goal
 
--- no more than are wanted
+-- there are at most `count`
 abbrev pub invariant-loop-alloc : goal.invariant-loop-alloc
 invariant-loop-alloc l = length l.pieces.items ≤ l.count
 

@@ -6,7 +6,7 @@ use Rattle.xs_session.specs.Places.{has_open}
 use Rattle.xs_session.specs.Session.{SessionIsAfter}
 use Rattle.xs_work.proofs.ahead.gather_answers.Given as goal
 
--- answers are begun, and no more than that
+-- answers are begun, and nothing else is done
 abbrev pub invariant-answers : goal.invariant-answers
 invariant-answers l = record {
   after : (manner : Manner) (read : List ℕ) (asked : List Command) (got : List Reply) (sent : List ℕ) → SessionIsAfter manner read asked got sent l.fn.session

@@ -5,7 +5,7 @@ use Rattle.xs_desk.specs.Callers.{Caller}
 use Rattle.xs_work.specs.Ahead.{IsAheadAfter}
 use Rattle.xs_work.proofs.ahead.give_up.Given as goal
 
--- answers have come, and what is owed is the same
+-- answers have come, and the unsent bytes are the same
 abbrev pub invariant-loop : goal.invariant-loop
 invariant-loop g l = record {
   after : (first : Caller) (manner : Manner) (read : List ℕ) (asked put : List Command) (sent : List ℕ) → IsAheadAfter first l.fn.client manner read asked put sent l.fn.session

@@ -5,7 +5,7 @@ use Rattle.xs_desk.specs.Callers.{Caller}
 use Rattle.xs_work.specs.Ahead.{IsAheadAfter}
 use Rattle.xs_work.proofs.ahead.receive.Given as goal
 
--- nothing is owed more, and no request was taken
+-- there are no more unsent bytes, and no request was taken
 abbrev pub invariant-loop : goal.invariant-loop
 invariant-loop g l = record {
   after : (first : Caller) (manner : Manner) (read : List ℕ) (asked put : List Command) (sent : List ℕ) → IsAheadAfter first l.fn.client manner read asked put sent l.fn.session

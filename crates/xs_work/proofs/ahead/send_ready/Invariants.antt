@@ -8,7 +8,7 @@ use Rattle.xs_session.specs.Places.{has_open}
 use Rattle.xs_session.specs.Session.{SessionIsAfter}
 use Rattle.xs_work.proofs.ahead.send_ready.Given as goal
 
--- bytes are sent, and nothing that is begun is owed
+-- bytes are sent, and all answers that are begun are sent
 abbrev pub invariant-answers : goal.invariant-answers
 invariant-answers g l = record {
   sends : (manner : Manner) (read : List ℕ) (asked : List Command) (got : List Reply) (sent : List ℕ) → SessionIsAfter manner read asked got sent l.fn.session

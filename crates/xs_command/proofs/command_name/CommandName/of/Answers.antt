@@ -5,7 +5,7 @@ use Rattle.xs_command.specs.CommandName.{has_rare_length}
 use Rattle.xs_command.proofs.CommandNames.{name_by_length}
 use Rattle.xs_command.proofs.command_name.CommandName.of.Goals as goal
 
--- what holds of the text's length holds of the word's
+-- a property of the text's length is one of the word's
 same_length : (text word : List ℕ) (keep : ℕ → Bool) → text ≡ word → keep (length text) ≡ true → keep (length word) ≡ true
 same_length text word keep same h = sym (ap (λ w. keep (length w)) same) ∙ h
 

@@ -1,7 +1,7 @@
 use Rattle.std.proofs.Common.{◌-◌, ◌≤◌}
 use Rattle.xs_desk.proofs.lane_set.LaneSet.first_from.Given as goal
 
--- the lanes before have been passed over
+-- the lanes before have been skipped
 abbrev pub invariant-loop-from : goal.invariant-loop-from
 invariant-loop-from l = l.fn.from ≤ l.from
 

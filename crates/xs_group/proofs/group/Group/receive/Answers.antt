@@ -6,7 +6,7 @@ use Rattle.xs_group.proofs.NewRows.{given-any, given-then, name-there}
 use Rattle.xs_group.proofs.Ordered.{is-consistent}
 use Rattle.xs_group.proofs.Cursors.{free-above, up_to-later, up_to-put}
 
--- without rows, what the consumer is given counts all the same
+-- without rows, giving the consumer something still counts
 given : (c : goal.After-self-1) → c.give.new.self ≡ record { consumers = with_name c.self.inside.pending.consumers c.args.consumer.now c.args.now (is_any c.args.ids.now); rows = c.self.inside.pending.rows }
 given c = grind (
   arith,

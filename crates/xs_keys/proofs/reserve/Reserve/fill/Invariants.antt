@@ -1,7 +1,7 @@
 use Rattle.std.proofs.Common.{◌-◌, ◌≤◌, length}
 use Rattle.xs_keys.proofs.reserve.Reserve.fill.Given as goal
 
--- no more than a whole reserve
+-- at most a full reserve
 abbrev pub invariant-loop-alloc : goal.invariant-loop-alloc
 invariant-loop-alloc l = length l.self-inside.pieces.items ≤ 64
 

@@ -5,7 +5,7 @@ use Rattle.xs_stream.specs.StreamContent.{ids_of, Ascends, entries_after_trim, A
 use Rattle.xs_stream.specs.Blocks.{all_of, IsLaidDown, block_ids}
 use Rattle.xs_stream.proofs.entries.Entries.drop_below.Given as goal
 
--- the trim keeps the same
+-- the trim leaves the same entries
 abbrev pub invariant-loop : goal.invariant-loop
 invariant-loop l = record {
   kept : entries_after_trim (MinId l.fn.low) (all_of l.self) ≡ entries_after_trim (MinId l.fn.low) (all_of l.fn.self);

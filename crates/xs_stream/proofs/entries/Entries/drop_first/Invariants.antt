@@ -4,7 +4,7 @@ use Rattle.xs_stream.specs.StreamContent.{AllUpTo}
 use Rattle.xs_stream.specs.Blocks.{all_of, IsLaidDown, block_ids}
 use Rattle.xs_stream.proofs.entries.Entries.drop_first.Given as goal
 
--- what is left to drop leaves the same
+-- dropping what is left to drop leaves the same entries
 abbrev pub invariant-loop-left : goal.invariant-loop-left
 invariant-loop-left l = record {
   entries : drop l.left (all_of l.self) ≡ drop l.count (all_of l.fn.self);

@@ -12,7 +12,7 @@ use Rattle.xs_stream.proofs.Dropping.{written-first, first-counted, length-poppe
 use Rattle.xs_stream.proofs.Rooms.{Filed, adds-up, first-room-within, measured-set, measured-popped}
 use Rattle.xs_stream.proofs.entries.Entries.drop_step.Goals as goal
 
--- ---- the first block goes whole
+-- ---- the first block is removed
 
 split : (c : goal.After-self-then-len-count-2-1) → (bs : Filed) × (c.args.self.now.older.entries ≡ (c.in-Some.under.now, c.in-Some.block.now) ∷ bs)
 split c = first-splits c.args.self.now.older.entries (c.in-Some.under.now, c.in-Some.block.now) c.in-Some.ensures.first
@@ -54,7 +54,7 @@ returns-then-len-count-clause-laid_down c =
       small = omega (arith, c.requires.laid_down.small);
     }
 
--- ---- some of its entries go
+-- ---- some of its entries are removed
 
 first : (c : goal.After-self-3-1) → (bs : Filed) × (c.args.self.now.older.entries ≡ (c.in-Some.under.now, c.in-Some.block.now) ∷ bs)
 first c = first-splits c.args.self.now.older.entries (c.in-Some.under.now, c.in-Some.block.now) c.in-Some.ensures.first

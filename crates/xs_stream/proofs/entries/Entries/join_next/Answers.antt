@@ -11,7 +11,7 @@ use Rattle.xs_stream.proofs.Joining.{found-some}
 use Rattle.xs_stream.proofs.Rooms.{adds-up, room-within, measured-set}
 use Rattle.xs_stream.proofs.entries.Entries.join_next.Goals as goal
 
--- ---- the block is taken out, and an empty one stands in its place
+-- ---- the block is taken out, and an empty one is in its place
 
 pub sum_after-self-requires-clause-part : goal.sum_after-self-requires-clause-part
 sum_after-self-requires-clause-part c =

@@ -14,7 +14,7 @@ use Rattle.xs_stream.proofs.entries.Entries.make_room.Goals as goal
 some : (c : goal.Joined-insert-2) → length c.args.self.now.newest.entries ≡ 0 → ⊥
 some c none = grind (arith, nat_tests)
 
--- the newest entries are a block behind the others
+-- the newest entries are a block after the others
 filed : (c : goal.Joined-insert-2) → contents c.insert.new.self.entries ≡ contents c.args.self.now.older.entries ++ (c.args.top, c.args.self.now.newest.entries) ∷ []
 filed c =
     let all = c.args.self.now in

@@ -5,7 +5,7 @@ use Rattle.xs_stream.specs.StreamContent.{without, AllUpTo, ids_of, greatest}
 use Rattle.xs_stream.specs.Blocks.{all_of, IsLaidDown, block_ids}
 use Rattle.xs_stream.proofs.entries.Entries.remove_all.Given as goal
 
--- the ids so far are out
+-- the ids so far are removed
 abbrev pub invariant-loop-id : goal.invariant-loop-id
 invariant-loop-id l = record {
   entries : all_of l.self ≡ without (take l.id-index l.ids) (all_of l.fn.self);

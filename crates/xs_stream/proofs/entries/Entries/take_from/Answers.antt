@@ -38,7 +38,7 @@ remove_block-requires c =
           (omega (arith, c.room.ensures.value, c.room.ensures.small)) (omega (arith, c.sum_after-self.ensures, c.room-before.ensures.value, c.room.ensures.value));
     }
 
--- ---- the block goes with its last entry
+-- ---- the block is removed with its last entry
 
 lent : (c : After-remove_block) → lookup_entry (λ k. not (is_below k c.args.id)) (contents c.args.self.now.older.entries) ≡ Some (c.args.under, c.in-Some.block.now.entries)
 lent c =

@@ -2,7 +2,7 @@ use Rattle.std.proofs.Common.{◌-◌, ◌≡◌, ◌+◌, ◌≤◌, ◌++◌, 
 use Rattle.std.specs.List.{remove_range}
 use Rattle.xs_stream.proofs.packed.gap.close_gap.Given as goal
 
--- the gap stands before what has not moved
+-- the gap is before what has not moved
 abbrev pub invariant-loop-at : goal.invariant-loop-at
 invariant-loop-at l = record {
   forward : l.from ≤ l.at;

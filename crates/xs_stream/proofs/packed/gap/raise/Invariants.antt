@@ -1,7 +1,7 @@
 use Rattle.std.proofs.Common.{◌-◌, ◌≡◌, ◌+◌, ◌≤◌, ◌++◌, take, drop, vec_len}
 use Rattle.xs_stream.proofs.packed.gap.raise.Given as goal
 
--- what lies before the end has not moved, and the gap follows it
+-- what is before the end has not moved, and the gap follows it
 abbrev pub invariant-loop-end : goal.invariant-loop-end
 invariant-loop-end l = record {
   begin : l.start ≤ l.end;

@@ -6,7 +6,7 @@ use Rattle.xs_stream.specs.StreamContent.{ids_of}
 use Rattle.xs_stream.specs.Blocks.{all_of}
 use Rattle.xs_stream.proofs.stream.Stream.count_past.Goals as goal
 
--- they are some of all
+-- they are some of all entries
 pub returns-clause-small : goal.returns-clause-small
 returns-clause-small c =
     let all = all_of c.self.inside.entries in

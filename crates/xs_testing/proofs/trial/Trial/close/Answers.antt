@@ -1,4 +1,4 @@
--- Where memory was refused both arguments came back, so the ends are those of the desk still.
+-- If memory was refused both arguments came back, so the ends are still those of the desk.
 use Rattle.std.specs.Prelude.{List}
 use Rattle.std.proofs.Common.{sym, subst}
 use Rattle.xs_desk.specs.History.{Desk}

@@ -5,6 +5,6 @@ use Rattle.xs_stream.specs.Packed.{packed_entries}
 use Rattle.xs_stream.specs.PassedEntries.{unpacked_entries}
 use Rattle.xs_stream.proofs.packed.walks.PackedEntries.fields_of.Given as goal
 
--- what is asked for is among those left
+-- the entry that is asked for is among those left
 abbrev pub invariant-loop : goal.invariant-loop
 invariant-loop l = fields_at (unpacked_entries l.self) l.id ≡ fields_at (packed_entries l.self.base (first_text l.self.bytes.now) (l.self.count - l.counter) l.rest) l.id

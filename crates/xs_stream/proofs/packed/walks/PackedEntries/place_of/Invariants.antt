@@ -7,7 +7,7 @@ use Rattle.xs_stream.specs.Packed.{packed_entries, after_entries}
 use Rattle.xs_stream.specs.PassedEntries.{unpacked_entries}
 use Rattle.xs_stream.proofs.packed.walks.PackedEntries.place_of.Given as goal
 
--- the entries passed have other ids
+-- the entries that were passed have other ids
 abbrev pub invariant-loop-index : goal.invariant-loop-index
 invariant-loop-index l = record {
   rest : l.rest ≡ after_entries l.index (drop l.self.start l.self.bytes.now);
