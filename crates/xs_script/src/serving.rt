@@ -28,9 +28,9 @@ fn answer(alloc: Global, keyspace: &mut Keyspace, now: Moment, words: &[Bytes]) 
     requires { 0 < length words.now }
     ensures { IsAnswer (StepAt now) keyspace.old words.now result keyspace.new }
 {
-    match &read_command(alloc, words) {
-        Ok(command) => keyspace.apply(now, command),
-        Err(Refusal::Said(fault)) => Reply::Error(*fault),
+    match read_command(alloc, words) {
+        Ok(command) => keyspace.apply(now, &command),
+        Err(Refusal::Said(fault)) => Reply::Error(fault),
         Err(Refusal::Memory) => Reply::Error(Fault::Memory),
     }
 }
