@@ -179,8 +179,7 @@ module _ (command : Command) (key group : List ℕ) (x : Id) where
           → (place_of life (ids_of (present_entries (change ∷ past))) x ≡ place_of life (ids_of (present_entries past)) x)
           ⊎ HasArrow command key group (ids_of (present_entries past)) x (place_of life (ids_of (present_entries past)) x) (place_of life (ids_of (present_entries (change ∷ past))) x)
       how (kept e) = inl e
-      how (fell d e f) =
-          inr (arrow.drop, e, f, does.may d)
+      how (fell d e f) = inr (arrow.drop_entry, e, f, does.may d)
 
       owes : (here : Place) → place_of life (ids_of (present_entries past)) x ≡ here → HasToMove command key group (ids_of (present_entries past)) x here (place_of life (ids_of (present_entries (change ∷ past))) x)
       owes before_start e = tt
@@ -603,7 +602,7 @@ goes-along past now command key group x formed =
 no_arrow : (command : Command) (key group : List ℕ) (ids : List Id) (x : Id) (here there : Place) → is_final here ≡ true → HasArrow command key group ids x here there → ⊥
 no_arrow command key group ids x here there f h = leads_on h.0 (sym (ap is_final h.1) ∙ f) where
   leads_on : (one : arrow.Arrow) → is_final (source one) ≡ true → ⊥
-  leads_on arrow.drop e = false≢true e
+  leads_on arrow.drop_entry e = false≢true e
   leads_on arrow.hand_out e = false≢true e
   leads_on (arrow.deliver name) e = false≢true e
   leads_on (arrow.claim one other) e = false≢true e

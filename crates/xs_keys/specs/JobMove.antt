@@ -17,7 +17,7 @@ use Rattle.xs_keys.specs.Effect.{ends_group}
 
 -- the arrows of a job's life, as the README of the repository draws them
 pub data Arrow : Type 0 where
-  drop : Arrow  -- XDEL or a trim takes what waits
+  drop_entry : Arrow  -- XDEL or a trim takes what waits
   hand_out : Arrow  -- XREADGROUP with NOACK
   deliver : Bytes → Arrow  -- XREADGROUP without NOACK, to this consumer
   claim : Bytes → Bytes → Arrow  -- XCLAIM or XAUTOCLAIM, from this consumer to that one
@@ -26,7 +26,7 @@ pub data Arrow : Type 0 where
   find_deleted : Bytes → Arrow  -- a claim from this consumer that finds the entry deleted
 
 abbrev pub source : Arrow → Place
-source drop = waiting
+source drop_entry = waiting
 source hand_out = waiting
 source (deliver consumer) = waiting
 source (claim owner claimer) = pending owner
@@ -35,7 +35,7 @@ source (remove_consumer owner) = pending owner
 source (find_deleted owner) = pending owner
 
 abbrev pub target : Arrow → Place
-target drop = dropped
+target drop_entry = dropped
 target hand_out = handed_out
 target (deliver consumer) = pending consumer
 target (claim owner claimer) = pending claimer
@@ -45,7 +45,8 @@ target (find_deleted owner) = settled
 
 -- a command that meets these ids in the stream may lead an entry along the arrow
 abbrev pub Leads : Command → Bytes → Bytes → List Id → Id → Arrow → Type 0
-Leads command key group present x drop = (deletes_entry command key x || may_trim_entry command key present x) ≡ true
+Leads command key group present x drop_entry =
+    (deletes_entry command key x || may_trim_entry command key present x) ≡ true
 Leads command key group present x hand_out = (reads_new_entries_in command key group && has_noack command) ≡ true
 Leads command key group present x (deliver consumer) =
     ((reads_new_entries_in command key group && not (has_noack command)) ≡ true)

@@ -6,10 +6,10 @@ use Rattle.xs_keys.proofs.examples.arrows_of_a_job.Goals as goal
 pub returns : goal.returns
 unfolding example_functions
 returns c = record {
-  by_a_deletion = (arrow.drop, refl, refl, refl);
-  by_a_trim = (arrow.drop, refl, refl, refl);
-  by_an_addition_that_trims = (arrow.drop, refl, refl, refl);
-  by_an_addition_that_trims_below = (arrow.drop, refl, refl, refl);
+  by_a_deletion = (arrow.drop_entry, refl, refl, refl);
+  by_a_trim = (arrow.drop_entry, refl, refl, refl);
+  by_an_addition_that_trims = (arrow.drop_entry, refl, refl, refl);
+  by_an_addition_that_trims_below = (arrow.drop_entry, refl, refl, refl);
   by_a_read = (arrow.deliver (codes "c"), refl, refl, (refl, refl));
   by_a_read_of_two = (arrow.deliver (codes "c"), refl, refl, (refl, refl));
   by_a_read_with_noack = (arrow.hand_out, refl, refl, refl);
