@@ -43,7 +43,8 @@ use Rattle.xs_keys.specs.Effect.{deletes_entry, is_trimmed_after_addition, may_t
 use Rattle.xs_keys.specs.Effect.{has_noack}
 use Rattle.xs_keys.specs.Effect.{claims_by_id, may_claim_entry, reader_or_claimer, acknowledges_entry}
 use Rattle.xs_keys.specs.Effect.{removes_consumer, may_begin_job, ends_group}
-use Rattle.xs_keys.specs.JobMove.{found_at, HasArrow, HasToMove, trims_new, IsFirstPlace, MovesAlong, is_final}
+use Rattle.xs_keys.specs.JobMove.{found_at, source, HasArrow, HasToMove, trims_new, IsFirstPlace, MovesAlong, is_final}
+use Rattle.xs_keys.specs.JobMove as arrow
 use Rattle.xs_keys.specs.JobMove.{NoneEndsGroup}
 use Rattle.xs_keys.proofs.Truths.{first_of, second_of, or_false}
 use Rattle.xs_keys.proofs.IdLists.{has_id-append, has_id-where}
@@ -133,8 +134,16 @@ module _ (command : Command) (key group : List ℕ) (x : Id) where
   same idle ids None = tt
   same idle ids (Some here) = (inl refl, owes-nothing idle ids here here)
 
-  along : (ids : List Id) (here there p q : Place) → here ≡ p → there ≡ q → HasArrow command key group ids x p q → HasArrow command key group ids x here there
-  along ids here there p q e f h = subst (λ p. HasArrow command key group ids x p there) (sym e) (subst (λ q. HasArrow command key group ids x p q) (sym f) h)
+  -- what is pending is settled along one of three arrows
+  settles-along : (ids : List Id) (name : List ℕ) (here there : Place) → here ≡ pending name → there ≡ settled
+      → (acknowledges_entry command key group x || (removes_consumer command key group name || (may_claim_entry command key group x && not (has_id ids x)))) ≡ true
+      → HasArrow command key group ids x here there
+  settles-along ids name here there e f = by (acknowledges_entry command key group x) refl (removes_consumer command key group name) refl where
+    by : (a : Bool) → acknowledges_entry command key group x ≡ a → (r : Bool) → removes_consumer command key group name ≡ r
+        → (a || (r || (may_claim_entry command key group x && not (has_id ids x)))) ≡ true → HasArrow command key group ids x here there
+    by true a removes r s = (arrow.acknowledge name, e, f, a)
+    by false a true r s = (arrow.remove_consumer name, e, f, r)
+    by false a false r s = (arrow.find_deleted name, e, f, s)
 
   ended : (ids : List Id) (p : Option Place) → ends_group command key group ≡ true → MovesAlong command key group ids x p None
   ended ids None e = tt
@@ -170,8 +179,7 @@ module _ (command : Command) (key group : List ℕ) (x : Id) where
           → (place_of life (ids_of (present_entries (change ∷ past))) x ≡ place_of life (ids_of (present_entries past)) x)
           ⊎ HasArrow command key group (ids_of (present_entries past)) x (place_of life (ids_of (present_entries past)) x) (place_of life (ids_of (present_entries (change ∷ past))) x)
       how (kept e) = inl e
-      how (fell d e f) =
-          inr (along (ids_of (present_entries past)) (place_of life (ids_of (present_entries past)) x) (place_of life (ids_of (present_entries (change ∷ past))) x) waiting dropped e f (does.may d))
+      how (fell d e f) = inr (arrow.drop_entry, e, f, does.may d)
 
       owes : (here : Place) → place_of life (ids_of (present_entries past)) x ≡ here → HasToMove command key group (ids_of (present_entries past)) x here (place_of life (ids_of (present_entries (change ∷ past))) x)
       owes before_start e = tt
@@ -220,15 +228,15 @@ goes-asked command key group x now ask (Some changes) (Some life) causes = by (h
       ⊎ HasArrow command key group (ids_of (present_entries changes)) x (place_of life (ids_of (present_entries changes)) x)
       (place_of (life_of life.start (record { now = now; present = ids_of (present_entries changes); ask = ask } ∷ life.events)) (ids_of (present_entries changes)) x)
   how (stayed e) = inl e
-  how (was_handed_out n k e f) = inr (along command key group x (ids_of (present_entries changes)) _ _ waiting handed_out e f (causes.hands_out (cursor life.start life.events) n k))
+  how (was_handed_out n k e f) = inr (arrow.hand_out, e, f, causes.hands_out (cursor life.start life.events) n k)
   how (was_delivered n k name c e f) =
       let d = causes.delivers (cursor life.start life.events) n k in
-      inr (along command key group x (ids_of (present_entries changes)) _ _ waiting (pending name) e f (d.0, d.1 ∙ c))
+      inr (arrow.deliver name, e, f, (d.0, d.1 ∙ c))
   how (was_taken t one other c e f) =
       let d = causes.takes (rows life.start life.events) t in
-      inr (along command key group x (ids_of (present_entries changes)) _ _ (pending one) (pending other) e f (d.0, d.1 ∙ c))
+      inr (arrow.claim one other, e, f, (d.0, d.1 ∙ c))
   how (was_settled s name l e f) =
-      inr (along command key group x (ids_of (present_entries changes)) _ _ (pending name) settled e f
+      inr (settles-along command key group x (ids_of (present_entries changes)) name _ _ e f
       (causes.settles (rows life.start life.events) name
       (once-assigned (is_acknowledgement_of ask x) (deletes_consumer ask name || has_id (claim_of_ask ask now (ids_of (present_entries changes)) (rows life.start life.events)).removed x)
       ∙ ap (λ last. (is_acknowledgement_of ask x && is_some last) || (option_map_or (deletes_consumer ask) last false || has_id (claim_of_ask ask now (ids_of (present_entries changes)) (rows life.start life.events)).removed x)) (sym l) ∙ s)))
@@ -592,12 +600,15 @@ goes-along past now command key group x formed =
 -- ---- final places
 
 no_arrow : (command : Command) (key group : List ℕ) (ids : List Id) (x : Id) (here there : Place) → is_final here ≡ true → HasArrow command key group ids x here there → ⊥
-no_arrow command key group ids x before_start there f h = h
-no_arrow command key group ids x waiting there f h = false≢true f
-no_arrow command key group ids x dropped there f h = h
-no_arrow command key group ids x handed_out there f h = h
-no_arrow command key group ids x (pending name) there f h = false≢true f
-no_arrow command key group ids x settled there f h = h
+no_arrow command key group ids x here there f h = leads_on h.0 (sym (ap is_final h.1) ∙ f) where
+  leads_on : (one : arrow.Arrow) → is_final (source one) ≡ true → ⊥
+  leads_on arrow.drop_entry e = false≢true e
+  leads_on arrow.hand_out e = false≢true e
+  leads_on (arrow.deliver name) e = false≢true e
+  leads_on (arrow.claim one other) e = false≢true e
+  leads_on (arrow.acknowledge name) e = false≢true e
+  leads_on (arrow.remove_consumer name) e = false≢true e
+  leads_on (arrow.find_deleted name) e = false≢true e
 
 pub for-good : (later earlier : History) (key group : List ℕ) (x : Id) (here : Place) → NoneEndsGroup key group later → is_final here ≡ true → place_after earlier key group x ≡ Some here
     → place_after (later ++ earlier) key group x ≡ Some here

@@ -75,10 +75,6 @@ refused-add content now add formed = by (get content add.key) refl add.make wher
   by None missing true e = absurd (false≢true (sym (never-refused now add.id formed) ∙ e))
   by None missing false e = refl
 
-no_error_taken : (just_id : Bool) (entries : List (Id × List Field)) (ids : List Id) → is_error (taken_reply just_id entries ids) ≡ false
-no_error_taken true entries ids = refl
-no_error_taken false entries ids = refl
-
 -- a group that doesn't exist is not asked
 refused-ask : (content : Content) (now : ℕ) (name group : List ℕ) (ask : GroupAsk) (said : GroupState → Reply) → ((s : GroupState) → is_error (said s) ≡ false)
     → is_error (reply_of_group (group_in (get content name) group) said) ≡ true → after_ask content now name group ask ≡ content
@@ -144,8 +140,7 @@ refused-unchanged content now (Pending name group) formed = λ e. refl
 refused-unchanged content now (PendingRows p) formed = λ e. refl
 refused-unchanged content now (Claim c) formed =
     let entries = entries_in (get content c.key) in
-    refused-ask content now c.key c.group (claim c.consumer c.rule c.ids) (λ g. taken_reply c.rule.just_id entries (claim_by_ids g.rows.entries (ids_of entries) now c.rule c.ids).take)
-    (λ s. no_error_taken c.rule.just_id entries (claim_by_ids s.rows.entries (ids_of entries) now c.rule c.ids).take)
+    refused-ask content now c.key c.group (claim c.consumer c.rule c.ids) (λ g. taken_reply c.rule.just_id entries (claim_by_ids g.rows.entries (ids_of entries) now c.rule c.ids).take) (λ s. refl)
 refused-unchanged content now (AutoClaim c) formed =
     let entries = entries_in (get content c.key) in
     refused-ask content now c.key c.group (auto_claim c.consumer c.rule c.start c.limit)

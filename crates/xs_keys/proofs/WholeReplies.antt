@@ -1,16 +1,19 @@
 -- The replies to commands are complete: the header of no array gives more or fewer items than the array has.
-use Rattle.std.proofs.Common.{ℕ, ◌-◌, codes, decimal, Bool, true, false, if◌then◌else◌, List, [], ◌∷◌, ◌++◌, map, Option, Some, None}
+use Rattle.std.proofs.Common.{◌≡◌, ◌∙◌, ap, append_assoc, ℕ, ◌-◌, codes, decimal, Bool, true, false, if◌then◌else◌, List, [], ◌∷◌}
+use Rattle.std.proofs.Common.{◌++◌, length, map, Option, Some, None}
 use Rattle.xs_stream.specs.StreamContent.{StreamState}
 use Rattle.xs_resp.specs.WholeReplies.{IsWholeReply, AreWhole}
-use Rattle.xs_resp.proofs.Wholeness.{items-whole, all-whole, whole-append}
+use Rattle.xs_resp.specs.ReplyItems.{tokens_of}
+use Rattle.xs_resp.specs.Token as token
+use Rattle.xs_resp.proofs.Wholeness.{items-whole, all-whole, grown, whole-append}
 use Rattle.xs_keys.specs.Terms.{GroupState, option_map_or, get, ConsumerReport, OwnerCount, GroupSummary, PendingRow, ReadGroupCommand}
 use Rattle.xs_keys.specs.Terms.{ReadOne, ReadFrom, New, After, new_ids, Bulk, Int, NullBulk, NullArray, flat_map, Id}
-use Rattle.xs_keys.specs.Terms.{Field, fields_at, ids_of}
+use Rattle.xs_keys.specs.Terms.{Field, Reply, fields_at, ids_of}
 use Rattle.xs_keys.specs.GroupLife.{ask_of_read}
 use Rattle.xs_keys.specs.Content.{Content}
 use Rattle.xs_keys.specs.ContentAfter.{after_ask, group_in, entries_in}
 use Rattle.xs_keys.specs.ReplyParts.{array, array_or_null, id_reply, field_replies, entry_reply, present_reply}
-use Rattle.xs_keys.specs.ReplyParts.{entries_reply, stream_part, new_part, owner_reply, row_reply, taken_reply}
+use Rattle.xs_keys.specs.ReplyParts.{entries_reply, stream_part, new_part, owner_reply, row_reply, taken_item, taken_reply}
 use Rattle.xs_keys.specs.Inspecting.{number_reply, lag_of, tells_no_number, read_reply, members_part, progress_part, group_reply}
 use Rattle.xs_keys.specs.Inspecting.{consumer_reply, end_reply, size_part, past_part, ends_part}
 use Rattle.xs_keys.specs.Reply.{parts_of_read, parts}
@@ -39,9 +42,20 @@ id-whole id = tt
 pub ids-whole : (ids : List Id) → IsWholeReply (array (map id_reply ids))
 ids-whole ids = items-whole (map id_reply ids) (all-whole id_reply id-whole ids)
 
+pub item-whole : (just_id : Bool) (entries : List (Id × List Field)) (id : Id) → IsWholeReply (taken_item just_id entries id)
+item-whole true entries id = id-whole id
+item-whole false entries id = entry-whole entries id
+
 pub taken-whole : (just_id : Bool) (entries : List (Id × List Field)) (ids : List Id) → IsWholeReply (taken_reply just_id entries ids)
-taken-whole true entries ids = ids-whole ids
-taken-whole false entries ids = entries-whole entries ids
+taken-whole just_id entries ids = items-whole (map (taken_item just_id entries) ids) (all-whole (taken_item just_id entries) (item-whole just_id entries) ids)
+
+-- an array more, whose header is appended before its items
+pub grown-array : (rs items : List Reply) (count : ℕ) (old headed new : List token.Token) → old ≡ flat_map tokens_of rs → headed ≡ old ++ token.Array count ∷ [] → count ≡ length items
+    → new ≡ headed ++ flat_map tokens_of items → new ≡ flat_map tokens_of (rs ++ array items ∷ [])
+grown-array rs items count old headed new is header counted more =
+    grown rs (array items) old new is
+    (more ∙ ap (λ (ts : List token.Token). ts ++ flat_map tokens_of items) (header ∙ ap (λ n. old ++ token.Array n ∷ []) counted)
+    ∙ append_assoc old (token.Array (length items) ∷ []) (flat_map tokens_of items))
 
 part-whole : (key : List ℕ) (entries : List (Id × List Field)) (ids : List Id) → IsWholeReply (stream_part key entries ids)
 part-whole key entries ids = items-whole (Bulk key ∷ entries_reply entries ids ∷ []) (tt, (entries-whole entries ids, tt))

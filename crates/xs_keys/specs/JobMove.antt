@@ -15,21 +15,53 @@ use Rattle.xs_keys.specs.Effect.{may_claim_entry, reader_or_claimer, acknowledge
 use Rattle.xs_keys.specs.Effect.{may_begin_job}
 use Rattle.xs_keys.specs.Effect.{ends_group}
 
--- the arrows: a command that meets these ids in the stream may lead an entry from here to there
-abbrev pub HasArrow : Command → Bytes → Bytes → List Id → Id → Place → Place → Type 0
-HasArrow command key group present x waiting dropped =
+-- the arrows of a job's life, as the README of the repository draws them
+pub data Arrow : Type 0 where
+  drop_entry : Arrow  -- XDEL or a trim takes what waits
+  hand_out : Arrow  -- XREADGROUP with NOACK
+  deliver : Bytes → Arrow  -- XREADGROUP without NOACK, to this consumer
+  claim : Bytes → Bytes → Arrow  -- XCLAIM or XAUTOCLAIM, from this consumer to that one
+  acknowledge : Bytes → Arrow  -- XACK; the entry was pending with this consumer
+  remove_consumer : Bytes → Arrow  -- XGROUP DELCONSUMER of this consumer
+  find_deleted : Bytes → Arrow  -- a claim from this consumer that finds the entry deleted
+
+abbrev pub source : Arrow → Place
+source drop_entry = waiting
+source hand_out = waiting
+source (deliver consumer) = waiting
+source (claim owner claimer) = pending owner
+source (acknowledge owner) = pending owner
+source (remove_consumer owner) = pending owner
+source (find_deleted owner) = pending owner
+
+abbrev pub target : Arrow → Place
+target drop_entry = dropped
+target hand_out = handed_out
+target (deliver consumer) = pending consumer
+target (claim owner claimer) = pending claimer
+target (acknowledge owner) = settled
+target (remove_consumer owner) = settled
+target (find_deleted owner) = settled
+
+-- a command that meets these ids in the stream may lead an entry along the arrow
+abbrev pub Leads : Command → Bytes → Bytes → List Id → Id → Arrow → Type 0
+Leads command key group present x drop_entry =
     (deletes_entry command key x || may_trim_entry command key present x) ≡ true
-HasArrow command key group present x waiting handed_out =
-    (reads_new_entries_in command key group && has_noack command) ≡ true
-HasArrow command key group present x waiting (pending consumer) =
+Leads command key group present x hand_out = (reads_new_entries_in command key group && has_noack command) ≡ true
+Leads command key group present x (deliver consumer) =
     ((reads_new_entries_in command key group && not (has_noack command)) ≡ true)
     × (reader_or_claimer command ≡ Some consumer)
-HasArrow command key group present x (pending one) (pending other) =
-    ((may_claim_entry command key group x && has_id present x) ≡ true) × (reader_or_claimer command ≡ Some other)
-HasArrow command key group present x (pending consumer) settled =
-    (acknowledges_entry command key group x || (removes_consumer command key group consumer
-    || (may_claim_entry command key group x && not (has_id present x)))) ≡ true
-HasArrow command key group present x _ _ = ⊥
+Leads command key group present x (claim owner claimer) =
+    ((may_claim_entry command key group x && has_id present x) ≡ true) × (reader_or_claimer command ≡ Some claimer)
+Leads command key group present x (acknowledge owner) = acknowledges_entry command key group x ≡ true
+Leads command key group present x (remove_consumer owner) = removes_consumer command key group owner ≡ true
+Leads command key group present x (find_deleted owner) =
+    (may_claim_entry command key group x && not (has_id present x)) ≡ true
+
+-- it may lead the entry from here to there
+abbrev pub HasArrow : Command → Bytes → Bytes → List Id → Id → Place → Place → Type 0
+HasArrow command key group present x here there =
+    (arrow : Arrow) × (here ≡ source arrow) × (there ≡ target arrow) × Leads command key group present x arrow
 
 -- some moves have to be made: a deletion drops what waits; and an acknowledgement, the deletion of its consumer, and a
 -- claim by its id that finds it deleted settle what is pending

@@ -79,9 +79,12 @@ summary_reply summary =
 abbrev pub row_reply : PendingRow → Reply
 row_reply row = array (id_reply row.id ∷ Bulk row.consumer ∷ Int row.idle ∷ Int row.count ∷ [])
 
--- XCLAIM and XAUTOCLAIM: the entries that a claim took, or only their ids
+-- XCLAIM and XAUTOCLAIM: an entry that a claim took, or only its id
+abbrev pub taken_item : Bool → Entries → Id → Reply
+taken_item just_id entries id = if just_id then id_reply id else entry_reply entries id
+
 abbrev pub taken_reply : Bool → Entries → List Id → Reply
-taken_reply just_id entries ids = if just_id then array (map id_reply ids) else entries_reply entries ids
+taken_reply just_id entries ids = array (map (taken_item just_id entries) ids)
 
 -- XAUTOCLAIM: where to go on, what was taken, and the ids that were removed
 abbrev pub scan_reply : Bool → Entries → scans.Scan → Reply

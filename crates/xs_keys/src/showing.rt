@@ -3,7 +3,7 @@ ghost use Rattle.std.specs.Prelude.{◌≡◌, ◌++◌, IfOk, OnOk, map};
 ghost use Rattle.std.specs.List.{flat_map};
 ghost use Rattle.xs_stream.specs.StreamContent.{AreEntriesOf};
 ghost use Rattle.xs_resp.specs.ReplyItems.{tokens_of};
-ghost use Rattle.xs_keys.specs.ReplyParts.{array, field_replies, id_reply, entry_reply, present_reply, entries_reply};
+ghost use Rattle.xs_keys.specs.ReplyParts.{array, field_replies, id_reply, entry_reply, present_reply, taken_item};
 
 use std::alloc::{AllocError, Global};
 use xs_resp::{Replies, Reply, Tokens};
@@ -79,7 +79,7 @@ pub fn push_along(
 }
 
 /// Appends the entries with these ids.
-pub fn push_entries(
+fn push_entries(
     tokens: &mut Tokens,
     alloc: Global,
     stream: &Stream,
@@ -131,11 +131,19 @@ pub fn push_ids(tokens: &mut Tokens, alloc: Global, ids: &[Id]) -> Result<(), Al
     Ok(())
 }
 
-/// The entries with these ids.
-pub fn entries_shown(alloc: Global, stream: &Stream, ids: &[Id]) -> Result<Reply, AllocError>
-    ensures { IfOk result (λ reply. reply ≡ entries_reply stream.now.entries ids.now) }
+/// Appends what a claim took: the entries, or only their ids.
+pub fn push_taken(
+    tokens: &mut Tokens,
+    alloc: Global,
+    stream: &Stream,
+    just_id: bool,
+    ids: &[Id],
+) -> Result<(), AllocError>
+    ensures { OnOk result (tokens.new ≡ tokens.old
+        ++ flat_map tokens_of (map (taken_item just_id stream.now.entries) ids.now)) }
 {
-    let mut tokens = Tokens::new(alloc);
-    push_entries(&mut tokens, alloc, stream, ids)?;
-    Ok(Reply::Array(Replies::new(ids.len(), tokens)))
+    if just_id {
+        return push_ids(tokens, alloc, ids);
+    }
+    push_entries(tokens, alloc, stream, ids)
 }

@@ -1,47 +1,20 @@
 //! XAUTOCLAIM.
-ghost use Rattle.std.specs.Prelude.{◌≡◌, ◌++◌, map, IfOk, OnOk, OnErr};
+ghost use Rattle.std.specs.Prelude.{◌≡◌, IfOk, OnOk, OnErr};
 ghost use Rattle.xs_stream.specs.StreamContent.{ids_of};
 ghost use Rattle.xs_group.specs.Claims as claims;
 ghost use Rattle.xs_keys.specs.GroupAsk.{auto_claim};
 ghost use Rattle.xs_keys.specs.ContentAfter.{group_after};
-ghost use Rattle.xs_resp.specs.ReplyItems.{tokens_of};
-ghost use Rattle.xs_keys.specs.ReplyParts.{array, id_reply, scan_reply, taken_reply};
+ghost use Rattle.xs_keys.specs.ReplyParts.{scan_reply};
 ghost use Rattle.xs_keys.specs.Step.{Attempt};
 
 use crate::keys::Keys;
 use crate::let_group::let_group;
-use crate::showing::{push_entries, push_id, push_ids};
+use crate::showing::{push_id, push_ids, push_taken};
 use std::alloc::{AllocError, Global};
 use xs_command::{AutoClaimCommand, Command};
 use xs_group::{Group, Scan};
 use xs_resp::{Fault, Replies, Reply, Tokens};
-use xs_stream::{Id, Moment, Stream};
-
-/// Appends an array of these ids.
-fn push_id_array(tokens: &mut Tokens, alloc: Global, ids: &[Id]) -> Result<(), AllocError>
-    ensures { OnOk result (tokens.new ≡ tokens.old ++ tokens_of (array (map id_reply ids.now))) }
-{
-    tokens.push_array(ids.len())?;
-    push_ids(tokens, alloc, ids)
-}
-
-/// Appends the array of the entries that a claim took, or only of their ids.
-fn push_taken(
-    tokens: &mut Tokens,
-    alloc: Global,
-    stream: &Stream,
-    just_id: bool,
-    ids: &[Id],
-) -> Result<(), AllocError>
-    ensures { OnOk result (tokens.new ≡ tokens.old
-        ++ tokens_of (taken_reply just_id stream.now.entries ids.now)) }
-{
-    if just_id {
-        return push_id_array(tokens, alloc, ids);
-    }
-    tokens.push_array(ids.len())?;
-    push_entries(tokens, alloc, stream, ids)
-}
+use xs_stream::{Moment, Stream};
 
 /// The id where to go on, what was taken, and the ids that were removed.
 fn scan_shown(
@@ -54,14 +27,12 @@ fn scan_shown(
 {
     let mut tokens = Tokens::new(alloc);
     push_id(&mut tokens, alloc, scan.cursor)?;
-    push_taken(
-        &mut tokens,
-        alloc,
-        stream,
-        just_id,
-        scan.claim.take.as_slice(),
-    )?;
-    push_id_array(&mut tokens, alloc, scan.claim.removed.as_slice())?;
+    let taken = scan.claim.take.as_slice();
+    tokens.push_array(taken.len())?;
+    push_taken(&mut tokens, alloc, stream, just_id, taken)?;
+    let removed = scan.claim.removed.as_slice();
+    tokens.push_array(removed.len())?;
+    push_ids(&mut tokens, alloc, removed)?;
     Ok(Reply::Array(Replies::new(3, tokens)))
 }
 

@@ -1,29 +1,20 @@
 //! XCLAIM.
-ghost use Rattle.std.specs.Prelude.{◌≡◌, map, IfOk, OnOk, OnErr};
+ghost use Rattle.std.specs.Prelude.{◌≡◌, IfOk, OnOk, OnErr};
 ghost use Rattle.xs_stream.specs.StreamContent.{ids_of};
 ghost use Rattle.xs_group.specs.Claims as claims;
 ghost use Rattle.xs_keys.specs.GroupAsk.{claim};
 ghost use Rattle.xs_keys.specs.ContentAfter.{group_after};
-ghost use Rattle.xs_keys.specs.ReplyParts.{array, id_reply, taken_reply};
+ghost use Rattle.xs_keys.specs.ReplyParts.{taken_reply};
 ghost use Rattle.xs_keys.specs.Step.{Attempt};
 
 use crate::keys::Keys;
 use crate::let_group::let_group;
-use crate::showing::{entries_shown, push_ids};
+use crate::showing::push_taken;
 use std::alloc::{AllocError, Global};
 use xs_command::{ClaimCommand, Command};
 use xs_group::Group;
 use xs_resp::{Fault, Replies, Reply, Tokens};
 use xs_stream::{Id, Moment, Stream};
-
-/// These ids.
-fn ids_shown(alloc: Global, ids: &[Id]) -> Result<Reply, AllocError>
-    ensures { IfOk result (λ reply. reply ≡ array (map id_reply ids.now)) }
-{
-    let mut tokens = Tokens::new(alloc);
-    push_ids(&mut tokens, alloc, ids)?;
-    Ok(Reply::Array(Replies::new(ids.len(), tokens)))
-}
 
 /// The entries that a claim took, or only their ids.
 fn taken_shown(
@@ -34,10 +25,9 @@ fn taken_shown(
 ) -> Result<Reply, AllocError>
     ensures { IfOk result (λ reply. reply ≡ taken_reply just_id stream.now.entries ids.now) }
 {
-    if just_id {
-        return ids_shown(alloc, ids);
-    }
-    entries_shown(alloc, stream, ids)
+    let mut tokens = Tokens::new(alloc);
+    push_taken(&mut tokens, alloc, stream, just_id, ids)?;
+    Ok(Reply::Array(Replies::new(ids.len(), tokens)))
 }
 
 /// Claims entries of a group. The reply is made before the claim is carried out, so the group is unchanged if memory

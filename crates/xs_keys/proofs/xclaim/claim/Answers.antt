@@ -1,7 +1,6 @@
-use Rattle.std.proofs.Common.{◌≡◌, Bool, true, false, cond, Some, sym, ap, ◌∙◌, refl}
-use Rattle.xs_keys.specs.Terms.{get, insert, GroupState, Reply}
+use Rattle.std.proofs.Common.{◌≡◌, Some, sym, ap, ◌∙◌, refl}
+use Rattle.xs_keys.specs.Terms.{get, insert, GroupState}
 use Rattle.xs_keys.specs.ContentAfter.{with_group}
-use Rattle.xs_keys.specs.Step.{is_error}
 use Rattle.xs_keys.specs.KeysRoom.{KeyInMemory, key_state_of}
 use Rattle.xs_keys.proofs.AskSteps.{put_same}
 use Rattle.xs_keys.proofs.CountedKeys.{counted-group}
@@ -19,10 +18,6 @@ found c = sym c.in-Some.ensures.value ∙ ap Some (sym c.slot.view_is)
 
 had : (c : After-slot) → get c.args.keys.now c.args.command.now.key ≡ Some (key_state_of (key c))
 had c = shown-key c.keys.inside.slots c.args.keys.now c.keys.view_is c.args.command.now.key (key c) (found c)
-
-no_error : (b : Bool) (x y : Reply) → is_error x ≡ false → is_error y ≡ false → is_error (cond b x y) ≡ false
-no_error true x y one other = one
-no_error false x y one other = other
 
 pub returns-in_default : goal.returns-in_default
 returns-in_default c =
@@ -65,7 +60,7 @@ returns c =
     })
     (λ same. record {
       takes = refl;
-      no_other = rw (had at, has) (no_error command.rule.just_id _ _ refl refl);
+      no_other = rw (had at, has) refl;
       answer_is = refl;
       content_is = left ∙ ap put same ∙ put_same c.args.keys.now command.key command.group (key_state_of (key at)) c.in-Some-get_mut.group.now (had at) has;
     })
