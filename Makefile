@@ -23,7 +23,7 @@ install: build
 	install -D -m 644 -t $(DESTDIR)$(PREFIX)/lib/systemd/system $(addprefix service/,$(UNITS))
 	sed -i 's,/usr/local,$(PREFIX),' $(addprefix $(DESTDIR)$(PREFIX)/lib/systemd/system/,$(UNITS))
 
-# CI. Checks that docs/PROOFS.md names the edits that exist, and that each slip of guards/slips.txt still applies. Proves
+# CI. Checks that guards/README.md names the edits that exist, and that each slip of guards/slips.txt still applies. Proves
 # everything from scratch, tries the edits of must-fail/, and runs the unit tests. Then it runs the program that was
 # built: the worked cases, large scripts, random connections, and the server as its users run it, with requests sent
 # many at once, and with a log, ended in every way. Last, Spin explores the models of how threads wait for each other.

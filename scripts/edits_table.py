@@ -1,5 +1,5 @@
 #!/usr/bin/env python3
-"""Writes the list of the wrong bodies that CI tries into docs/PROOFS.md.
+"""Writes the list of the wrong bodies that CI tries into guards/README.md.
 
     edits_table.py            writes it
     edits_table.py --check    says whether it is as the folders have it; the status is 1 if it isn't
@@ -8,7 +8,7 @@ import os
 import sys
 
 TOP = os.path.dirname(os.path.dirname(os.path.abspath(__file__)))
-PAGE = os.path.join(TOP, "docs", "PROOFS.md")
+PAGE = os.path.join(TOP, "guards", "README.md")
 BEGIN, END = "<!-- edits: scripts/edits_table.py -->\n", "<!-- end of edits -->\n"
 
 
@@ -35,7 +35,7 @@ def main(arguments):
     new = before + BEGIN + names() + END + rest.split(END)[1]
     if arguments:
         if new != text:
-            print("docs/PROOFS.md has other edits than the folders: run scripts/edits_table.py")
+            print("guards/README.md has other edits than the folders: run scripts/edits_table.py")
         return int(new != text)
     with open(PAGE, "w", encoding="utf-8") as page:
         page.write(new)
