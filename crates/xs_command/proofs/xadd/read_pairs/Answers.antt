@@ -11,9 +11,13 @@ returns-in_err-field c =
 
 pub loop-pair-preserved : goal.loop-pair-preserved
 loop-pair-preserved c =
-    let shorter = (step c.loop-pair.left c.in_ok-field.field c.in_ok-field.behind c.in_ok-field.ensures).shorter in
-    (rw c.push_reserved.ensures.items (goes_on c.loop-pair.items.items c.loop-pair.left c.in_ok-field.field c.in_ok-field.behind c.in_ok-field.ensures ∙ c.loop-pair.invariant.0), omega (arith, c.loop-pair.invariant.1), omega (arith, c.loop-pair.invariant.2),
-    omega (arith, c.push_reserved.ensures.len, c.loop-pair.invariant.3), omega (arith, c.push_reserved.ensures.capacity, c.loop-pair.invariant.4))
+    let shorter = (step c.loop-pair.left c.in_ok-field.field c.in_ok-field.behind c.in_ok-field.ensures).shorter in (
+      rw c.push_reserved.ensures.items (goes_on c.loop-pair.items.items c.loop-pair.left c.in_ok-field.field c.in_ok-field.behind c.in_ok-field.ensures ∙ c.loop-pair.invariant.0),
+      omega (arith, c.loop-pair.invariant.1),
+      omega (arith, c.loop-pair.invariant.2),
+      omega (arith, c.push_reserved.ensures.len, c.loop-pair.invariant.3),
+      omega (arith, c.push_reserved.ensures.capacity, c.loop-pair.invariant.4),
+    )
 
 pub returns : goal.returns
 returns c =
