@@ -11,7 +11,8 @@ compact by themselves, as they do if nothing is set. The greatest sizes of their
 pauses: so many entries of 115 bytes, which can't be compressed, are in closed logs. So many requests a second over 50
 connections, half of them XADD, half XREADGROUP, each sent at its moment by bench/paced_driver.c, are answered for some
 seconds, and then while the folder is compacted: by a process of its own, as its unit has it, or by the server, which
-begins at its start, since that is due. Redis is asked for BGREWRITEAOF. A run begins once the disk is at rest. Each
+begins at its start, since that is due. Redis is asked for BGREWRITEAOF. A run begins once the disk is at
+rest; if that isn't so within two minutes, a line says so, and it begins all the same. Each
 figure is the median of the runs. Behind them is the memory of the processes: resident here, private of the child of
 Redis.
 restart: how long a start takes on logs, and on a snapshot and the last log; of Redis on its plain file, and on its base
