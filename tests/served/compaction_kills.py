@@ -15,7 +15,7 @@ import served
 from books import GROUP, KEY, Connection, Load, Queue
 from logged import logged, new_folder
 
-GREAT = b"v" * logs.FULL
+GREAT = b"v" * logs.LEAST_CLOSED
 # A log of more bytes isn't cut.
 MOST_CUT = 8 << 20
 

@@ -231,7 +231,7 @@ def how_much_is_due(program):
     have these sizes: one that is due is refused, since they are damaged. Refuses: a compaction is due at 64 MiB,
     however large the snapshot is; logs below the snapshot are counted."""
     damaged = "not compacted: snapshot-2 is damaged at byte 0"
-    least = logs.FULL
+    least = logs.LEAST_CLOSED
 
     def work(place):
         snapshot, closed, is_due = ((1, least, False), (1, least + 1, True), (least + 9, least + 9, False),

@@ -328,10 +328,10 @@ def what_a_log_has(program):
 
 
 def two_logs(program):
-    """A log of 64 MiB is closed, and the next one begun: each is kept before the next is there. All that both have is
+    """A log of 16 MiB is closed, and the next one begun: each is kept before the next is there. All that both have is
     read; if there is no memory for it the start is refused, and nothing is changed. Refuses: the next log is made
     before the one before it is synced."""
-    value, count = b"v" * 1_000_000, 70
+    value, count = b"v" * 1_000_000, 20
     with syncs.counted() as told, new_folder() as folder:
         with (logged(program, folder, "no", compact="never", environment=told.environment) as server,
               Connection(server.port) as one):
@@ -344,12 +344,12 @@ def two_logs(program):
         assert told.kept(logs.path_of(folder, 1)) == first, "the first log isn't kept"
         assert told.last(logs.path_of(folder, 1)) < told.last(folder), "the next log is there before the first is kept"
         files = [os.stat(logs.path_of(folder, place)) for place in (1, 2)]
-        limits = served.with_limits({resource.RLIMIT_AS: 64 * MEGABYTE})
+        limits = served.with_limits({resource.RLIMIT_AS: 24 * MEGABYTE})
         is_refusal(start(program, folder, before=limits), folder, "log-[12] out of memory")
         with logged(program, folder, compact="never") as server, Connection(server.port) as one:
             assert read_at_start(server, folder) == (count, 0)
             assert one.ask("XLEN", "s") == count
-            for place in (1, 67, count):
+            for place in (1, 17, count):
                 found = one.ask("XRANGE", "s", f"{place}-0", f"{place}-0")
                 assert found == [[f"{place}-0".encode(), [b"f", value]]], place
             one.ask("XADD", "s", "*", "f", "v")

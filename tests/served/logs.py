@@ -13,8 +13,8 @@ from resp import request
 
 
 FORMAT, MODEL = 2, 1
-# A log with so many bytes is closed, and the next one begun.
-FULL = 64 << 20
+# A log with so many bytes is closed, and the next one begun. Closed logs of so many bytes don't cause a compaction.
+FULL, LEAST_CLOSED = 16 << 20, 64 << 20
 NAME = re.compile(r"log-([1-9][0-9]*)")
 
 

@@ -23,8 +23,8 @@ use xs_log::{Extent, Recovered, TapeLog, recover};
 use xs_replay::EventLog;
 use xs_stream::Moment;
 
-/// A log with at least this many bytes, 64 MiB, is closed, and the next one begun.
-const FULL: u64 = 67_108_864;
+/// A log with at least this many bytes, 16 MiB, is closed, and the next one begun.
+const FULL: u64 = 16_777_216;
 
 /// A folder of logs that was opened.
 #[derive(Drop)]
