@@ -1,5 +1,5 @@
 //! Numbers of 63 bits.
-ghost use Rattle.std.specs.Prelude.{◌≡◌, ◌<◌, ◌^◌};
+ghost use Rattle.std.specs.Prelude.{◌≡◌, ◌<◌, ◌^◌, Some, None, nat_lt, if◌then◌else◌};
 
 use std::marker::Model;
 
@@ -32,6 +32,16 @@ impl U63 {
         ensures { result ≡ value }
     {
         U63 { value }
+    }
+
+    /// Makes it from a number. None above 9223372036854775807.
+    pub fn checked(value: u64) -> Option<U63>
+        ensures { result ≡ (if nat_lt value (2 ^ 63) then Some value else None) }
+    {
+        if value > Self::MAX {
+            return None;
+        }
+        Some(U63::new(value))
     }
 
     /// As a number of 64 bits.

@@ -26,7 +26,7 @@ use Rattle.xs_command.specs.Xadd.{xadd, add_option, no_add_options, addition}
 use Rattle.xs_command.specs.Xdel.{xdel}
 use Rattle.xs_command.specs.Xtrim.{xtrim, trim_to}
 use Rattle.xs_command.specs.Xlen.{xlen}
-use Rattle.xs_command.specs.Xrange.{xrange, xrevrange, scan, scan_option, no_limit}
+use Rattle.xs_command.specs.Xrange.{xrange, xrevrange, scan, scan_option}
 use Rattle.xs_command.specs.Del.{del}
 
 -- whatever is read has this property
@@ -84,11 +84,11 @@ xtrim_formed = after_any IsWellFormed word _ (λ key. after_any IsWellFormed (ma
 
 pub xrange_formed : Always IsWellFormed xrange
 unfolding xrange
-xrange_formed = after_any IsWellFormed word _ (λ key. after_any IsWellFormed low _ (λ low. after_any IsWellFormed high _ (λ high. after_any IsWellFormed (many scan_option no_limit) _ (λ options. only_is IsWellFormed (scan key low high options false) Syntax tt))))
+xrange_formed = after_any IsWellFormed word _ (λ key. after_any IsWellFormed low _ (λ low. after_any IsWellFormed high _ (λ high. after_any IsWellFormed (many scan_option None) _ (λ limit. only_is IsWellFormed (scan key low high limit false) Syntax tt))))
 
 pub xrevrange_formed : Always IsWellFormed xrevrange
 unfolding xrevrange
-xrevrange_formed = after_any IsWellFormed word _ (λ key. after_any IsWellFormed high _ (λ high. after_any IsWellFormed low _ (λ low. after_any IsWellFormed (many scan_option no_limit) _ (λ options. only_is IsWellFormed (scan key low high options true) Syntax tt))))
+xrevrange_formed = after_any IsWellFormed word _ (λ key. after_any IsWellFormed high _ (λ high. after_any IsWellFormed low _ (λ low. after_any IsWellFormed (many scan_option None) _ (λ limit. only_is IsWellFormed (scan key low high limit true) Syntax tt))))
 
 pub del_formed : Always IsWellFormed del
 unfolding del

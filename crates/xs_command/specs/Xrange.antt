@@ -1,33 +1,28 @@
 -- XRANGE and XREVRANGE.
-use Rattle.std.specs.Prelude.{ℕ, Bool, true, false, List, codes, Some, None, Ok, if◌then◌else◌}
+use Rattle.std.specs.Prelude.{ℕ, Bool, true, false, List, codes, Option, Some, None, Ok, if◌then◌else◌}
 use Rattle.xs_stream.specs.declared.id.Id.{Id}
 use Rattle.xs_resp.specs.declared.fault.Fault.TheVariants.{Syntax}
 use Rattle.xs_command.specs.declared.command.Command.{Command}
 use Rattle.xs_command.specs.declared.command.Command.TheVariants as command
-use Rattle.xs_command.specs.declared.xrange.ScanOptions.{ScanOptions}
 use Rattle.xs_command.specs.Integer.{at_least_zero}
 use Rattle.xs_command.specs.Words.{Reading, ◌>>=◌, value, is_word, word, integer, low, high}
 use Rattle.xs_command.specs.Options.{OptionOf, many, option_with}
 use Rattle.xs_command.specs.Syntax.{only}
 
--- without COUNT there is no limit
-abbrev pub no_limit : ScanOptions
-no_limit = record { limit = None }
-
--- { COUNT n }; a negative number counts as 0
-unfoldable pub scan_option : OptionOf ScanOptions
-scan_option options name words =
+-- { COUNT n }; a negative number counts as 0, and without COUNT there is no limit
+unfoldable pub scan_option : OptionOf (Option ℕ)
+scan_option limit name words =
     if is_word (codes "count") name
-    then option_with (integer >>= λ count. value (record { limit = Some (at_least_zero count) })) words
-    else Ok (options, None)
+    then option_with (integer >>= λ count. value (Some (at_least_zero count))) words
+    else Ok (limit, None)
 
 -- the command with these parts
-abbrev pub scan : List ℕ → Id → Id → ScanOptions → Bool → Command
-scan key low high options reversed =
+abbrev pub scan : List ℕ → Id → Id → Option ℕ → Bool → Command
+scan key low high limit reversed =
     command.Scan (record {
       key = key;
       range = record { low = low; high = high };
-      limit = options.limit;
+      limit = limit;
       reversed = reversed;
     })
 
@@ -37,8 +32,8 @@ xrange = do
   key ← word
   low ← low
   high ← high
-  options ← many scan_option no_limit
-  only (scan key low high options false) Syntax
+  limit ← many scan_option None
+  only (scan key low high limit false) Syntax
 
 -- XREVRANGE key high low { COUNT n }
 unfoldable pub xrevrange : Reading Command
@@ -46,5 +41,5 @@ xrevrange = do
   key ← word
   high ← high
   low ← low
-  options ← many scan_option no_limit
-  only (scan key low high options true) Syntax
+  limit ← many scan_option None
+  only (scan key low high limit true) Syntax

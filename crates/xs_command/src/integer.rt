@@ -22,11 +22,8 @@ impl Integer {
     {
         let (first, digits) = text.split_first()?;
         if *first != b'-' {
-            let value = natural(text)?;
-            if value > U63::MAX {
-                return None;
-            }
-            return Some(Self::Natural(U63::new(value)));
+            let value = U63::checked(natural(text)?)?;
+            return Some(Self::Natural(value));
         }
         let size = natural(digits)?;
         (0 < size && size <= 1 << 63).then_some(Self::Negative)

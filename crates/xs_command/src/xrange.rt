@@ -11,13 +11,7 @@ use std::alloc::Global;
 use xs_resp::Fault;
 use xs_stream::Range;
 
-/// The options of XRANGE and XREVRANGE that were read.
-#[derive(Clone, Copy, Debug, PartialEq, Eq)]
-pub(crate) struct ScanOptions {
-    limit: Option<u64>,
-}
-
-impl Options for ScanOptions {
+impl Options for Option<u64> {
     ghost use Rattle.xs_command.specs.Xrange.{scan_option};
 
     ghost option = { scan_option };
@@ -32,8 +26,7 @@ impl Options for ScanOptions {
     ) -> Result<(Self, Option<Words<'a>>), Refusal> {
         if name.is(b"count") {
             let (count, words) = words.integer()?;
-            let limit = Some(count.at_least_zero());
-            return Ok((Self { limit }, Some(words)));
+            return Ok((Some(count.at_least_zero()), Some(words)));
         }
         Ok((self, None))
     }
@@ -47,11 +40,11 @@ pub(crate) fn read(alloc: Global, words: &Words<'_>) -> Result<Command, Refusal>
     let (key, words) = words.name(alloc)?;
     let (low, words) = words.low()?;
     let (high, words) = words.high()?;
-    let (options, words) = read_options(alloc, ScanOptions { limit: None }, words)?;
+    let (limit, words) = read_options(alloc, None, words)?;
     let scan = RangeCommand {
         key,
         range: Range { low, high },
-        limit: options.limit,
+        limit,
         reversed: false,
     };
     words.only(Command::Scan(scan), Fault::Syntax)
@@ -65,11 +58,11 @@ pub(crate) fn read_reversed(alloc: Global, words: &Words<'_>) -> Result<Command,
     let (key, words) = words.name(alloc)?;
     let (high, words) = words.high()?;
     let (low, words) = words.low()?;
-    let (options, words) = read_options(alloc, ScanOptions { limit: None }, words)?;
+    let (limit, words) = read_options(alloc, None, words)?;
     let scan = RangeCommand {
         key,
         range: Range { low, high },
-        limit: options.limit,
+        limit,
         reversed: true,
     };
     words.only(Command::Scan(scan), Fault::Syntax)

@@ -15,10 +15,7 @@ use xs_stream::Moment;
 pub(crate) fn next_count(count: U63) -> U63
     ensures { result ≡ next_count count }
 {
-    if count.get() < U63::MAX {
-        return U63::new(count.get() + 1);
-    }
-    count
+    U63::checked(count.get() + 1).unwrap_or(count)
 }
 
 /// A pending entry: its consumer, when it was last delivered, and how often.

@@ -57,10 +57,7 @@ fn count_of(word: &Bytes) -> Option<U63>
     ensures { result ≡ small_of_word word.now }
 {
     let number = natural(word.as_slice())?;
-    if number > U63::MAX {
-        return None;
-    }
-    Some(U63::new(number))
+    U63::checked(number)
 }
 
 /// A copy of a word.

@@ -116,10 +116,8 @@ fn first_standing(alloc: Global, manner: &Manner, id: U63) -> Standing
 
 /// The number of the next connection over the same memory. It differs from those over other memory.
 fn next_id(id: U63) -> U63 {
-    match id.get().checked_add(MOST_SESSIONS) {
-        Some(next) if next <= U63::MAX => U63::new(next),
-        _ => id,
-    }
+    let next = id.get().checked_add(MOST_SESSIONS);
+    next.and_then(U63::checked).unwrap_or(id)
 }
 
 /// Whether the reply to a command may have any size, or may take long.

@@ -35,11 +35,11 @@ pub const PIECES: [&str; 10] = [
         116, 101, 115] }] } }",
     "Group { name: [97], cursor: Id { ms: 0, seq: 0 } }",
     "Group { name: [119], cursor: Id { ms: 3, seq: 0 } }",
-    "Consumer { name: [99], moment: Moment { millis: 40 } }",
-    "Consumer { name: [100], moment: Moment { millis: 9223372036854775807 } }",
-    "Row { id: Id { ms: 1, seq: 0 }, consumer: [100], time: Moment { millis: 60 }, \
+    "Consumer { name: [99], moment: Moment { millis: U63 { value: 40 } } }",
+    "Consumer { name: [100], moment: Moment { millis: U63 { value: 9223372036854775807 } } }",
+    "Row { id: Id { ms: 1, seq: 0 }, consumer: [100], time: Moment { millis: U63 { value: 60 } }, \
         count: U63 { value: 2 } }",
-    "Row { id: Id { ms: 2, seq: 7 }, consumer: [99], time: Moment { millis: 61 }, \
+    "Row { id: Id { ms: 2, seq: 7 }, consumer: [99], time: Moment { millis: U63 { value: 61 } }, \
         count: U63 { value: 9223372036854775807 } }",
     "Key { name: [115], top: Id { ms: 9, seq: 18446744073709551615 }, added: 1, \
         deleted: Id { ms: 9, seq: 9 } }",
