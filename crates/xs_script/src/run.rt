@@ -8,7 +8,7 @@ ghost use Rattle.xs_script.specs.Cause.{Cause, HasCause, reads_limit, writer as 
 ghost use Rattle.xs_script.specs.ScriptRun.{Runs, RunsBy, ScriptIsAfter, EndsOnceWritten, IsWritten, cause_of_script};
 
 use crate::fault::ScriptFault;
-use crate::state::{Script, Turn};
+use crate::state::{Next, Script};
 use std::alloc::Global;
 use xs_io::{Fill, FillFault, Sink, Source, write_all};
 use xs_keys::Keyspace;
@@ -19,14 +19,14 @@ const READS: u64 = 1_000_000_000_000;
 /// The unwritten bytes from which on replies are written.
 const WRITE_BYTES: usize = 65_536;
 
-/// Takes the script's next turn, and reads on if it waits. If the script ends, its end is the error.
-fn take_turn<R: Source>(
+/// Takes the script's next step, and reads on if it waits. If the script ends, its end is the error.
+fn step<R: Source>(
     reader: &mut R,
     left: &mut u64,
     script: &mut Script,
     keyspace: &mut Keyspace,
 ) -> Result<(), Result<u64, ScriptFault>>
-    ensures turn { (read sent : List ℕ) → ScriptIsAfter read sent script.old keyspace.old →
+    ensures steps { (read sent : List ℕ) → ScriptIsAfter read sent script.old keyspace.old →
         (got : List ℕ) × Consumes (R.rest reader.old) (R.rest reader.new) got
         × MatchResult result (λ _. ScriptIsAfter (read ++ got) sent script.new keyspace.new)
         (λ end. (cause : Cause) × EndsOnceWritten cause end (read ++ got) sent script.new
@@ -38,9 +38,9 @@ fn take_turn<R: Source>(
         (left.new * 65537 + length script.new.held < left.old * 65537 + length script.old.held) }
 {
     match script.advance(keyspace) {
-        Turn::Goes => return Ok(()),
-        Turn::Ends(end) => return Err(end),
-        Turn::Waits => {}
+        Next::Goes => return Ok(()),
+        Next::Ends(end) => return Err(end),
+        Next::Waits => {}
     }
     if *left == 0 {
         return Err(script.read_error());
@@ -115,7 +115,7 @@ fn send_last<W: Sink>(
     }
 }
 
-/// Drives a script to its end: its turns are taken one after the other, bytes are read into it if it waits, and its
+/// Drives a script to its end: its steps are taken one after the other, bytes are read into it if it waits, and its
 /// unwritten bytes are written once they are enough, and all of them at its end.
 fn drive<R: Source, W: Sink>(
     reader: &mut R,
@@ -132,8 +132,8 @@ fn drive<R: Source, W: Sink>(
     ensures reads { counter_at (R.calls reader.new) ≤ R.calls reader.old + reads_limit }
 {
     let mut left = READS;
-    'turns: loop {
-        match take_turn(reader, &mut left, script, keyspace) {
+    'steps: loop {
+        match step(reader, &mut left, script, keyspace) {
             Ok(()) => {}
             Err(end) => return send_last(writer, script, end),
         }

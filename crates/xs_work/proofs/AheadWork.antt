@@ -18,7 +18,7 @@ use Rattle.xs_session.specs.declared.manner.Manner.{Manner}
 use Rattle.xs_session.specs.declared.manner.Manner.TheVariants.{Plain, Full}
 use Rattle.xs_session.specs.Session.{IsFirst}
 use Rattle.xs_session.specs.declared.ending.Ending.{Ending}
-use Rattle.xs_session.proofs.SessionTurns.{after-new}
+use Rattle.xs_session.proofs.SessionSteps.{after-new}
 use Rattle.xs_work.specs.declared.ahead.AheadFault.{AheadFault}
 use Rattle.xs_work.specs.declared.ahead.AheadFault.TheVariants as fault
 use Rattle.xs_work.specs.Ahead.{ServesAhead, HasCauseOf}

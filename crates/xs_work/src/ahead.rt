@@ -23,7 +23,7 @@ use xs_command::Words;
 use xs_connection::Inform;
 use xs_desk::{Call, Client, Pause, PortFault};
 use xs_io::{FillFault, Sink, Source, write_all};
-use xs_session::{Ending, Manner, Session, Turn};
+use xs_session::{Ending, Manner, Next, Session};
 
 /// Why a connection ended before its end.
 #[derive(Clone, Copy, Debug, PartialEq, Eq, Error)]
@@ -423,24 +423,24 @@ fn step<R: Source, W: Sink, P: Attend, T: Wait>(
 {
     let informant = Informant { worker: pause };
     match session.advance(manner, &informant, client.wants_words()) {
-        Turn::Goes => {
+        Next::Goes => {
             greet(manner, session, pause);
             Ok(())
         }
-        Turn::Asks(call) => match submit(rt, session, client, pause, call) {
+        Next::Asks(call) => match submit(rt, session, client, pause, call) {
             Ok(()) => Ok(()),
             Err(_) => Err(Err(AheadFault::Port)),
         },
-        Turn::Full => match make_room(rt, session, writer, client, pause) {
+        Next::Full => match make_room(rt, session, writer, client, pause) {
             Ok(()) => Ok(()),
             Err(fault) => Err(Err(fault)),
         },
-        Turn::Ends(ending) => match settle(rt, session, writer, client, pause) {
+        Next::Ends(ending) => match settle(rt, session, writer, client, pause) {
             Ok(true) => Ok(()),
             Ok(false) => Err(Ok(ending)),
             Err(fault) => Err(Err(fault)),
         },
-        Turn::Waits => match settle(rt, session, writer, client, pause) {
+        Next::Waits => match settle(rt, session, writer, client, pause) {
             Ok(true) => Ok(()),
             Ok(false) => {
                 pause.note(session.tally);

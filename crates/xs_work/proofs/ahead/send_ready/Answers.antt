@@ -4,7 +4,7 @@ use Rattle.xs_resp.specs.LeftToWrite.{bytes_left}
 use Rattle.xs_session.specs.declared.session.Session.{Session}
 use Rattle.xs_session.specs.Places.{has_open, NoneReady}
 use Rattle.xs_session.proofs.Tests.{none-behind}
-use Rattle.xs_work.proofs.AheadTurns.{breaks-later}
+use Rattle.xs_work.proofs.AheadSteps.{breaks-later}
 use Rattle.xs_work.proofs.ahead.send_ready.Goals as goal
 
 pub answers-init : goal.answers-init

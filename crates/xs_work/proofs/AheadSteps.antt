@@ -18,7 +18,7 @@ use Rattle.xs_session.specs.declared.session.Session.{Session}
 use Rattle.xs_session.specs.declared.places.Place.{Place}
 use Rattle.xs_session.specs.Places.{has_open}
 use Rattle.xs_session.specs.Session.{IsAfter, SessionIsAfter, Goes, Waits}
-use Rattle.xs_session.proofs.SessionTurns.{after-sent, after-even}
+use Rattle.xs_session.proofs.SessionSteps.{after-sent, after-even}
 use Rattle.xs_work.specs.declared.ahead.AheadFault.{AheadFault}
 use Rattle.xs_work.specs.declared.ahead.AheadFault.TheVariants as fault
 use Rattle.xs_work.specs.Ahead.{Calls, IsAheadAfter, BreaksOff, IsLost, HasCauseOf, AheadEnds, AheadFails, ServesAhead, IsDone}
@@ -162,7 +162,7 @@ module _ (first now : Caller) (manner : Manner) (read sent : List ℕ) where
   pub fails-none : (wrong : AheadFault) (asked put : List Command) → AheadFails wrong first now manner read asked put sent → AheadFails wrong first now manner (read ++ []) asked put sent
   fails-none wrong asked put f = subst (λ (r : List ℕ). AheadFails wrong first now manner r asked put sent) (sym (append-nil read)) f
 
-  -- a turn that asks nothing
+  -- a step that asks nothing
   pub asked-none : (asked put : List Command) (session : Session) (got : List Reply) → SessionIsAfter manner read (asked ++ []) got sent session → Calls first now put got → IsAheadAfter first now manner read asked put sent session
   asked-none asked put session got after calls =
       subst (λ (a : List Command). IsAheadAfter first now manner read a put sent session) (append-nil asked) (record { got = got; after = after; calls = calls })
