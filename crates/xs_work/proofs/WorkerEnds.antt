@@ -8,7 +8,7 @@ use Rattle.xs_keys.specs.Headline.{RunsOn}
 use Rattle.xs_desk.specs.declared.summary.Summary.{Summary}
 use Rattle.xs_desk.specs.Callers.{Caller, AreEndsOfLanes, HasEndOfLane}
 use Rattle.xs_desk.specs.Closing.{SumUp}
-use Rattle.xs_desk.specs.History.{LaneOf, ServedCall, Desk, IsHistory, events_of, replies_of}
+use Rattle.xs_desk.specs.ServedCalls.{LaneOf, ServedCall, Desk, AreCallsOf, events_of, replies_of}
 use Rattle.xs_desk.specs.KeptRings.{KeepsSide, KeepSides}
 use Rattle.xs_desk.specs.Opening.{AreNew}
 use Rattle.xs_desk.specs.Opening.{IsDeskError}
@@ -169,18 +169,18 @@ served-pool client_of gate_of trace faulty depth lanes clients ends gates later 
 
 -- a desk whose workers did this was closed
 pub closed-desk : (faulty : Bool) (desk : Desk) (ends : List Caller) (before now : List GateTrace) (summary : Summary) → AreEndsOfLanes desk.lanes ends → SumUp desk.lanes ends (length desk.lanes) summary.lanes.items
-    → ((history : List ServedCall) × IsHistory history desk × RunsOn empty (events_of history) (replies_of history) summary.keyspace) → length desk.lanes ≡ length before → AreServed faulty ends before now
+    → ((calls : List ServedCall) × AreCallsOf calls desk × RunsOn empty (events_of calls) (replies_of calls) summary.keyspace) → length desk.lanes ≡ length before → AreServed faulty ends before now
     → IsClosed faulty before now summary
-closed-desk faulty desk ends before now summary are lanes history count served = record {
+closed-desk faulty desk ends before now summary are lanes calls count served = record {
   desk = desk;
   ends = ends;
-  history = history.0;
+  calls = calls.0;
   count = count;
   are_ends = are;
   served = served;
   lanes = subst (λ (n : ℕ). SumUp desk.lanes ends n summary.lanes.items) count lanes;
-  is_history = history.1;
-  runs = history.2;
+  are_calls = calls.1;
+  runs = calls.2;
 }
 
 -- the same gates have the same traces
