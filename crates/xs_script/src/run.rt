@@ -1,8 +1,9 @@
 //! A script over a reader and a writer.
-ghost use Rattle.std.specs.Prelude.{◌≡◌, ◌+◌, ◌*◌, ◌<◌, ◌≤◌, ◌⊎◌, ◌++◌, [], Bool, ℕ, List, true, Err, length, take};
+ghost use Rattle.std.specs.Prelude.{◌≡◌, ◌+◌, ◌*◌, ◌<◌, ◌≤◌, ◌⊎◌, ◌++◌, [], ℕ, List, true, Err, length, take};
 ghost use Rattle.std.specs.Prelude.{OnOk, OnErr, IfErr, MatchResult};
 ghost use Rattle.xs_io.specs.Passing.{Appends, Consumes};
 ghost use Rattle.xs_io.specs.Device.{counter_at};
+ghost use Rattle.xs_io.specs.DeviceState.{ReaderState, WriterState, input_of, output_of};
 ghost use Rattle.xs_keys.specs.Content.{Content};
 ghost use Rattle.xs_script.specs.Cause.{Cause, HasCause, reads_limit, writer as writer_failed};
 ghost use Rattle.xs_script.specs.ScriptRun.{Runs, RunsBy, ScriptIsAfter, EndsOnceWritten, IsWritten, cause_of_script};
@@ -30,9 +31,9 @@ fn step<R: Source>(
         (got : List ℕ) × Consumes (R.rest reader.old) (R.rest reader.new) got
         × MatchResult result (λ _. ScriptIsAfter (read ++ got) sent script.new keyspace.new)
         (λ end. (cause : Cause) × EndsOnceWritten cause end (read ++ got) sent script.new
-        × ((before : ℕ) (broken : Bool) → counter_at (R.calls reader.old + left.old) ≡ counter_at (before + reads_limit)
-        → HasCause cause (R.rest reader.new) (R.ended reader.new) (R.broken reader.new)
-        before (R.calls reader.new) broken)) }
+        × ((first : ReaderState) (output : WriterState) →
+        counter_at (R.calls reader.old + left.old) ≡ counter_at (first.calls + reads_limit)
+        → HasCause cause first (input_of R.Source reader.new) output)) }
     ensures counted { counter_at (R.calls reader.new + left.new) ≡ counter_at (R.calls reader.old + left.old) }
     ensures less { OnOk result
         (left.new * 65537 + length script.new.held < left.old * 65537 + length script.old.held) }
@@ -127,8 +128,7 @@ fn drive<R: Source, W: Sink>(
     ensures ends { (read sent : List ℕ) × (cause : Cause)
         × Consumes (R.rest reader.old) (R.rest reader.new) read × Appends (W.held writer.old) (W.held writer.new) sent
         × RunsBy cause result read sent
-        × HasCause cause (R.rest reader.new) (R.ended reader.new) (R.broken reader.new)
-        (R.calls reader.old) (R.calls reader.new) (W.broken writer.new) }
+        × HasCause cause (input_of R.Source reader.old) (input_of R.Source reader.new) (output_of W.Sink writer.new) }
     ensures reads { counter_at (R.calls reader.new) ≤ R.calls reader.old + reads_limit }
 {
     let mut left = READS;
@@ -155,8 +155,8 @@ pub fn run_script<R: Source, W: Sink>(
         × Appends (W.held writer.old) (W.held writer.new) sent
         × Runs result read sent (R.rest reader.new) (R.ended reader.new) }
     ensures reads { counter_at (R.calls reader.new) ≤ R.calls reader.old + reads_limit }
-    ensures cause { HasCause (cause_of_script result) (R.rest reader.new) (R.ended reader.new) (R.broken reader.new)
-        (R.calls reader.old) (R.calls reader.new) (W.broken writer.new) }
+    ensures cause { HasCause (cause_of_script result)
+        (input_of R.Source reader.old) (input_of R.Source reader.new) (output_of W.Sink writer.new) }
 {
     let mut script = Script::new(alloc);
     let mut keyspace = Keyspace::new(alloc);

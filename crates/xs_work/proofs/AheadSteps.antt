@@ -75,12 +75,12 @@ module _ (first now : Caller) (manner : Manner) (read sent : List ℕ) where
   end-is standing ending.Closed ended held places owed asked got s is done = absurd (subst (λ e. Goes manner standing e s.taken s.rest held) is s.goes)
   end-is standing ending.Cut ended held places owed asked got s is done = absurd (subst (λ e. Goes manner standing e s.taken s.rest held) is s.goes)
 
-  pub end-cause : (standing : Standing) (end : Ending) (ended : Option Ending) (held : Held) (places : List Place) (owed : List ℕ) (asked : List Command) (got : List Reply) (left : Passing) (over broken unwritten : Bool) → IsAfter manner standing read asked got sent ended held places owed
-      → ended ≡ Some end → HasCauseOf (Ok end) left over broken unwritten
-  end-cause standing ending.Quit ended held places owed asked got left over broken unwritten s is = tt
-  end-cause standing ending.Protocol ended held places owed asked got left over broken unwritten s is = tt
-  end-cause standing ending.Closed ended held places owed asked got left over broken unwritten s is = absurd (subst (λ e. Goes manner standing e s.taken s.rest held) is s.goes)
-  end-cause standing ending.Cut ended held places owed asked got left over broken unwritten s is = absurd (subst (λ e. Goes manner standing e s.taken s.rest held) is s.goes)
+  pub end-cause : (standing : Standing) (end : Ending) (ended : Option Ending) (held : Held) (places : List Place) (owed : List ℕ) (asked : List Command) (got : List Reply) (input : ReaderState) (output : WriterState) → IsAfter manner standing read asked got sent ended held places owed
+      → ended ≡ Some end → HasCauseOf (Ok end) input output
+  end-cause standing ending.Quit ended held places owed asked got input output s is = tt
+  end-cause standing ending.Protocol ended held places owed asked got input output s is = tt
+  end-cause standing ending.Closed ended held places owed asked got input output s is = absurd (subst (λ e. Goes manner standing e s.taken s.rest held) is s.goes)
+  end-cause standing ending.Cut ended held places owed asked got input output s is = absurd (subst (λ e. Goes manner standing e s.taken s.rest held) is s.goes)
 
   none-open : (places : List Place) → places ≡ [] → has_open places ≡ false
   none-open places is = ap has_open is
@@ -198,11 +198,11 @@ module _ (first now : Caller) (manner : Manner) (read sent : List ℕ) where
   }
 
   -- the result of a read
-  pub read-so : {A : Type 0} (result : Result A (Result Ending AheadFault)) (left : Passing) (over broken unwritten : Bool) (asked : List Command) (session : Session) → IsAheadAfter first now manner read asked asked sent session → IsDone session.places (bytes_left session.owed)
-      → IfErr result (λ end. AheadEnds end session.ended session.requests session.places (bytes_left session.owed)) → IfErr result (λ end. HasCauseOf end left over broken unwritten)
-      → MatchResult result (λ _. (all : List Command) × IsAheadAfter first now manner read all all sent session) (λ end. ServesAhead end first now manner read sent × HasCauseOf end left over broken unwritten)
-  read-so (Ok x) left over broken unwritten asked session a done ends cause = (asked, a)
-  read-so (Err end) left over broken unwritten asked session a done ends cause = (serves-done end asked session a done ends, cause)
+  pub read-so : {A : Type 0} (result : Result A (Result Ending AheadFault)) (input : ReaderState) (output : WriterState) (asked : List Command) (session : Session) → IsAheadAfter first now manner read asked asked sent session → IsDone session.places (bytes_left session.owed)
+      → IfErr result (λ end. AheadEnds end session.ended session.requests session.places (bytes_left session.owed)) → IfErr result (λ end. HasCauseOf end input output)
+      → MatchResult result (λ _. (all : List Command) × IsAheadAfter first now manner read all all sent session) (λ end. ServesAhead end first now manner read sent × HasCauseOf end input output)
+  read-so (Ok x) input output asked session a done ends cause = (asked, a)
+  read-so (Err end) input output asked session a done ends cause = (serves-done end asked session a done ends, cause)
 
 -- the answers that were waited for have come after the writer failed, or the lane is gone
 pub gives-up : (first old new : Caller) (manner : Manner) (read : List ℕ) (asked put : List Command) (sent more : List ℕ) (was is : Session) (got : List Reply) (wrong : AheadFault) → BreaksOff manner read asked got sent more was → Calls first old put got
@@ -237,8 +237,8 @@ pub lost-is : {X Y : Type 0} (wrong : AheadFault) (unwritten : Bool) → ((wrong
 lost-is wrong unwritten (inl (write, x, y)) failed = subst (λ (w : AheadFault). IsLost w unwritten) (sym write) failed
 lost-is wrong unwritten (inr port) failed = subst (λ (w : AheadFault). IsLost w unwritten) (sym port) tt
 
-pub lost-cause : (wrong : AheadFault) (left : Passing) (over broken unwritten : Bool) → IsLost wrong unwritten → HasCauseOf (Err wrong) left over broken unwritten
-lost-cause fault.Write left over broken unwritten lost = lost
-lost-cause fault.Port left over broken unwritten lost = tt
-lost-cause fault.Read left over broken unwritten lost = absurd lost
-lost-cause fault.Memory left over broken unwritten lost = absurd lost
+pub lost-cause : (wrong : AheadFault) (input : ReaderState) (output : WriterState) → IsLost wrong output.broken → HasCauseOf (Err wrong) input output
+lost-cause fault.Write input output lost = lost
+lost-cause fault.Port input output lost = tt
+lost-cause fault.Read input output lost = absurd lost
+lost-cause fault.Memory input output lost = absurd lost

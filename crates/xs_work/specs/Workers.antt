@@ -29,11 +29,11 @@ pub record ServesOne
   pub read : List ℕ
   pub sent : List ℕ
   pub told : List ℕ
-  pub consumes : Consumes given.rest back.rest read
-  pub appends : Appends given.held back.held (sent ++ told)
+  pub consumes : Consumes given.input.rest back.input.rest read
+  pub appends : Appends given.output.held back.output.held (sent ++ told)
   pub served : ServesAhead result first last manner read sent
-  pub cause : HasCauseOf result back.rest back.ended back.unread back.unwritten
-  pub is_told : IsTold result told back.unwritten
+  pub cause : HasCauseOf result back.input back.output
+  pub is_told : IsTold result told back.output.broken
 
 -- the connections that were given are those that came back, one by one and in order; nothing had passed through any
 -- before; each was served through the lane, and nothing else was submitted or taken; and unless the lane was lost, all
@@ -42,7 +42,7 @@ abbrev pub ServesEach : Manner → Bool → Caller → List Seen → List Seen �
 ServesEach manner lost first [] [] last = last ≡ first
 ServesEach manner lost first (one ∷ given) (back ∷ returned) last =
     (result : Result Ending AheadFault) × (mid : Caller) × (lost ≡ false → result ≢ Err fault.Port)
-    × AreFresh one.rest one.held × ServesOne manner result first mid one back
+    × AreFresh one.input.rest one.output.held × ServesOne manner result first mid one back
     × ServesEach manner lost mid given returned last
 ServesEach manner lost first _ _ last = ⊥
 

@@ -1,7 +1,8 @@
 //! A connection over a reader, a writer and a lane: its requests are asked ahead of the answers.
-ghost use Rattle.std.specs.Prelude.{◌≡◌, ◌⊎◌, ◌++◌, ◌∷◌, [], Bool, ℕ, List, true, false, Ok};
+ghost use Rattle.std.specs.Prelude.{◌≡◌, ◌⊎◌, ◌++◌, ◌∷◌, [], ℕ, List, true, false, Ok};
 ghost use Rattle.std.specs.Prelude.{◌<◌, ◌≤◌, length, OnOk, OnErr, IfErr, MatchResult};
 ghost use Rattle.xs_io.specs.Passing.{Appends, Consumes};
+ghost use Rattle.xs_io.specs.DeviceState.{WriterState, input_of, output_of};
 ghost use Rattle.xs_resp.specs.declared.reply.Reply.{Reply};
 ghost use Rattle.xs_resp.specs.LeftToWrite.{bytes_left};
 ghost use Rattle.xs_command.specs.declared.command.Command.{Command};
@@ -365,8 +366,7 @@ fn read_on<R: Source>(
     ensures ends { IfErr result (λ end. AheadEnds end session.new.ended session.new.requests session.new.places
         (bytes_left session.new.owed)) }
     ensures done { IsDone session.new.places (bytes_left session.new.owed) }
-    ensures cause { (unwritten : Bool) → IfErr result (λ end.
-        HasCauseOf end (R.rest reader.new) (R.ended reader.new) (R.broken reader.new) unwritten) }
+    ensures cause { (output : WriterState) → IfErr result (λ end. HasCauseOf end (input_of R.Source reader.new) output) }
 {
     match session.read_from(reader) {
         Ok(0) => Err(Ok(session.end())),
@@ -419,7 +419,7 @@ fn step<R: Source, W: Sink, P: Attend, T: Wait>(
         (λ _. (now : List Command)
         × IsAheadAfter first client.new manner.now (read ++ came) now now (sent ++ went) session.new)
         (λ end. ServesAhead end first client.new manner.now (read ++ came) (sent ++ went)
-        × HasCauseOf end (R.rest reader.new) (R.ended reader.new) (R.broken reader.new) (W.broken writer.new)) }
+        × HasCauseOf end (input_of R.Source reader.new) (output_of W.Sink writer.new)) }
 {
     let informant = Informant { worker: pause };
     match session.advance(manner, &informant, client.wants_words()) {
@@ -468,8 +468,7 @@ pub fn serve_ahead<R: Source, W: Sink, P: Attend, T: Wait>(
     ensures serves { (read sent : List ℕ)
         × Consumes (R.rest reader.old) (R.rest reader.new) read × Appends (W.held writer.old) (W.held writer.new) sent
         × ServesAhead result client.old client.new manner.now read sent }
-    ensures cause { HasCauseOf result (R.rest reader.new) (R.ended reader.new) (R.broken reader.new)
-        (W.broken writer.new) }
+    ensures cause { HasCauseOf result (input_of R.Source reader.new) (output_of W.Sink writer.new) }
     ensures clear { IsNew manner.now session.new }
 {
     session.clear(manner);

@@ -1,5 +1,6 @@
 use Rattle.std.proofs.Common.{[], ◌++◌, inl, inr, refl, ◌∙◌}
 use Rattle.xs_io.proofs.Passing.{Consumes-nil, Appends-nil, Consumes-trans, Appends-trans}
+use Rattle.xs_io.specs.DeviceState.{input_of, output_of}
 use Rattle.xs_script.specs.Cause.{writer}
 use Rattle.xs_script.proofs.run.drive.Goals as goal
 
@@ -28,7 +29,7 @@ returns-in-Err-clause-ends g c =
     let read = Consumes-trans _ _ _ inv.read came inv.consumes consumes in
     let sent = Appends-trans _ _ _ inv.sent more inv.appends appends in
     elim ended [
-      | inl ends ↦ (inv.read ++ came, inv.sent ++ more, cause, read, sent, ends, because (g.R.Source.calls c.args.reader.now) (g.W.Sink.broken c.send_last.new.writer) inv.counted)
+      | inl ends ↦ (inv.read ++ came, inv.sent ++ more, cause, read, sent, ends, because (input_of g.R.Source c.args.reader.now) (output_of g.W.Sink c.send_last.new.writer) inv.counted)
       | inr broken ↦ (inv.read ++ came, inv.sent ++ more, writer, read, sent, broken.0, broken.1)
     ]
 

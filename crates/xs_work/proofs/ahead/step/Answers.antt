@@ -53,7 +53,7 @@ returns-in-Err-make_room g c = record {
       let b = asked-none first c.args.client.now manner read sent asked asked c.advance.new.self a.got (c.in-Full.ensures.after read asked a.got sent a.after) a.calls in
       let (more, went, fails) = c.in-Err-make_room.ensures.after first manner read asked asked sent b in
       let now = c.make_room.new.client in
-      ([], more, Consumes-nil _, went, (serves-fails first now manner (read ++ []) (sent ++ more) c.in-Err-make_room.fault asked (fails-none first now manner read (sent ++ more) c.in-Err-make_room.fault asked asked fails), lost-cause c.in-Err-make_room.fault _ _ _ _ c.in-Err-make_room.ensures.cause));
+      ([], more, Consumes-nil _, went, (serves-fails first now manner (read ++ []) (sent ++ more) c.in-Err-make_room.fault asked (fails-none first now manner read (sent ++ more) c.in-Err-make_room.fault asked asked fails), lost-cause c.in-Err-make_room.fault _ _ c.in-Err-make_room.ensures.cause));
 }
 
 pub returns-in-Ok-true : goal.returns-in-Ok-true
@@ -81,7 +81,7 @@ returns-in-Ok-false g c = record {
         went,
         (
           serves-end first now manner (read ++ []) (sent ++ more) c.in-Ends.ending asked session (read-none first now manner read (sent ++ more) asked asked session later) ended done,
-          end-cause first now manner read (sent ++ more) session.standing c.in-Ends.ending session.ended session.requests session.places (bytes_left session.owed) asked later.got _ _ _ _ later.after.0 ended,
+          end-cause first now manner read (sent ++ more) session.standing c.in-Ends.ending session.ended session.requests session.places (bytes_left session.owed) asked later.got _ _ later.after.0 ended,
         ),
       );
 }
@@ -93,7 +93,7 @@ returns-in-Err-settle g c = record {
       let b = asked-none first c.args.client.now manner read sent asked asked c.advance.new.self a.got (c.in-Ends.ensures.after read asked a.got sent a.after) a.calls in
       let (more, went, fails) = c.in-Err-settle.ensures.after first manner read asked asked sent b in
       let now = c.settle.new.client in
-      ([], more, Consumes-nil _, went, (serves-fails first now manner (read ++ []) (sent ++ more) c.in-Err-settle.fault asked (fails-none first now manner read (sent ++ more) c.in-Err-settle.fault asked asked fails), lost-cause c.in-Err-settle.fault _ _ _ _ c.in-Err-settle.ensures.cause));
+      ([], more, Consumes-nil _, went, (serves-fails first now manner (read ++ []) (sent ++ more) c.in-Err-settle.fault asked (fails-none first now manner read (sent ++ more) c.in-Err-settle.fault asked asked fails), lost-cause c.in-Err-settle.fault _ _ c.in-Err-settle.ensures.cause));
 }
 
 pub returns-in-Ok-true-settle : goal.returns-in-Ok-true-settle
@@ -116,7 +116,7 @@ returns-in-Ok-false-settle g c = record {
         more,
         consumes,
         went,
-        read-so first c.settle-in-Waits.new.client manner (read ++ came) (sent ++ more) c.read_on.result _ _ _ _ asked c.read_on.new.session (record { got = later.got; after = after; calls = later.calls }) c.read_on.ensures.done c.read_on.ensures.ends (c.read_on.ensures.cause _),
+        read-so first c.settle-in-Waits.new.client manner (read ++ came) (sent ++ more) c.read_on.result _ _ asked c.read_on.new.session (record { got = later.got; after = after; calls = later.calls }) c.read_on.ensures.done c.read_on.ensures.ends (c.read_on.ensures.cause _),
       );
 }
 
@@ -127,7 +127,7 @@ returns-in-Err-settle-2 g c = record {
       let b = asked-none first c.args.client.now manner read sent asked asked c.advance.new.self a.got (c.in-Waits.ensures.after read asked a.got sent a.after) a.calls in
       let (more, went, fails) = c.in-Err-settle-2.ensures.after first manner read asked asked sent b in
       let now = c.settle-in-Waits.new.client in
-      ([], more, Consumes-nil _, went, (serves-fails first now manner (read ++ []) (sent ++ more) c.in-Err-settle-2.fault asked (fails-none first now manner read (sent ++ more) c.in-Err-settle-2.fault asked asked fails), lost-cause c.in-Err-settle-2.fault _ _ _ _ c.in-Err-settle-2.ensures.cause));
+      ([], more, Consumes-nil _, went, (serves-fails first now manner (read ++ []) (sent ++ more) c.in-Err-settle-2.fault asked (fails-none first now manner read (sent ++ more) c.in-Err-settle-2.fault asked asked fails), lost-cause c.in-Err-settle-2.fault _ _ c.in-Err-settle-2.ensures.cause));
 }
 
 pub read_on-requires-clause-waits : goal.read_on-requires-clause-waits
