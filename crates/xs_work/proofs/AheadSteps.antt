@@ -3,7 +3,7 @@ use Rattle.std.proofs.Common.{◌≡◌, ◌⊎◌, inl, inr, ℕ, ◌<◌, ◌�
 use Rattle.std.specs.Prelude.{IfErr, MatchResult}
 use Rattle.std.proofs.Common.{append_assoc, arith, take, drop, length-drop, length-append}
 use Rattle.std.proofs.lemmas.List.{append-nil, take-append-drop}
-use Rattle.xs_io.specs.Passing.{Passing}
+use Rattle.xs_io.specs.DeviceState.{ReaderState, WriterState}
 use Rattle.xs_resp.specs.declared.reply.Reply.{Reply}
 use Rattle.xs_resp.specs.Grammar.{IsOpen}
 use Rattle.xs_resp.specs.HeldBytes.{Held, holds_bytes}
@@ -36,7 +36,7 @@ part-sent manner read asked got sent before session count few s =
       rest = drop count piece ++ behind;
       more_is = refl;
       after = s;
-      owed_is = ap (λ p. p ++ behind) (sym (take-append-drop count piece)) ∙ append_assoc (take count piece) (drop count piece) behind;
+      unsent_is = ap (λ p. p ++ behind) (sym (take-append-drop count piece)) ∙ append_assoc (take count piece) (drop count piece) behind;
       some = grind (arith, length-append, some);
     }
 
@@ -49,7 +49,7 @@ breaks-later manner read asked got sent went more session b = record {
   rest = b.rest;
   more_is = ap (λ m. went ++ m) b.more_is ∙ sym (append_assoc went b.before b.part);
   after = subst (λ (o : List ℕ). SessionIsAfter manner read asked got o session) (append_assoc sent went b.before) b.after;
-  owed_is = b.owed_is;
+  unsent_is = b.unsent_is;
   some = b.some;
 }
 
@@ -212,7 +212,7 @@ gives-up first old new manner read asked put sent more was is got wrong b calls 
   later : (got : List Reply) → SessionIsAfter manner read asked got (sent ++ b.before) is → IsAfter manner is.standing read asked got (sent ++ more) is.ended is.requests is.places b.rest
   later got s =
       subst (λ (o : List ℕ). IsAfter manner is.standing read asked got o is.ended is.requests is.places b.rest) (append_assoc sent b.before b.part ∙ ap (λ m. sent ++ m) (sym b.more_is))
-      (after-sent manner is.standing read asked got (sent ++ b.before) is.ended is.requests is.places (bytes_left is.owed) b.part b.rest s.0 (ap bytes_left same ∙ b.owed_is))
+      (after-sent manner is.standing read asked got (sent ++ b.before) is.ended is.requests is.places (bytes_left is.owed) b.part b.rest s.0 (ap bytes_left same ∙ b.unsent_is))
 
   by : IsAheadAfter first new manner read asked put (sent ++ b.before) is → ((wrong ≡ fault.Write) × (has_open is.places ≡ false) × (length is.places ≤ 32)) ⊎ (wrong ≡ fault.Port) → AheadFails wrong first new manner read asked put (sent ++ more)
   by a (inl (write, closed, few)) =

@@ -24,7 +24,7 @@ use Rattle.xs_work.specs.declared.ahead.AheadFault.TheVariants as fault
 use Rattle.xs_work.specs.Ahead.{ServesAhead, HasCauseOf}
 use Rattle.xs_work.specs.Texts.{Says}
 use Rattle.xs_work.specs.Gates.{Seen, GateTrace, AreFresh, with_given, with_returned, at_end}
-use Rattle.xs_work.specs.Workers.{no_memory, IsTold, ServesOne, ServesEach, ServesGate, Works}
+use Rattle.xs_work.specs.Workers.{no_memory, IsReported, ServesOne, ServesEach, ServesGate, Works}
 use Rattle.xs_work.proofs.AheadCalls.{calls-none}
 
 -- one more
@@ -154,35 +154,35 @@ serves-none manner client = record {
 }
 
 -- a connection that ended out of memory, which was reported to its client
-pub serves-told : (manner : Manner) (first last : Caller) (read sent : List ℕ) (given back : Seen) (held : Passing) → Consumes given.input.rest back.input.rest read → Appends given.output.held held sent → ServesAhead (Err fault.Memory) first last manner read sent
+pub serves-reported : (manner : Manner) (first last : Caller) (read sent : List ℕ) (given back : Seen) (held : Passing) → Consumes given.input.rest back.input.rest read → Appends given.output.held held sent → ServesAhead (Err fault.Memory) first last manner read sent
     → Says no_memory held back.output.held back.output.broken → ServesOne manner (Err fault.Memory) first last given back
-serves-told manner first last read sent given back held consumes appends served says = record {
+serves-reported manner first last read sent given back held consumes appends served says = record {
   read = read;
   sent = sent;
-  told = says.0;
+  reported = says.0;
   consumes = consumes;
   appends = Appends-trans given.output.held held back.output.held sent says.0 appends says.3;
   served = served;
   cause = tt;
-  is_told = (says.1, says.2, says.4);
+  is_reported = (says.1, says.2, says.4);
 }
 
 -- a connection that ended so that nothing was reported
-pub serves-untold : (manner : Manner) (result : Result Ending AheadFault) (first last : Caller) (read sent : List ℕ) (given back : Seen) → result ≢ Err fault.Memory → Consumes given.input.rest back.input.rest read → Appends given.output.held back.output.held sent
+pub serves-unreported : (manner : Manner) (result : Result Ending AheadFault) (first last : Caller) (read sent : List ℕ) (given back : Seen) → result ≢ Err fault.Memory → Consumes given.input.rest back.input.rest read → Appends given.output.held back.output.held sent
     → ServesAhead result first last manner read sent → HasCauseOf result back.input back.output → ServesOne manner result first last given back
-serves-untold manner result first last read sent given back other consumes appends served cause = record {
+serves-unreported manner result first last read sent given back other consumes appends served cause = record {
   read = read;
   sent = sent;
-  told = [];
+  reported = [];
   consumes = consumes;
   appends = rw (append-nil sent) appends;
   served = served;
   cause = cause;
-  is_told = untold result back.output.broken other;
+  is_reported = unreported result back.output.broken other;
 } where
-  untold : (result : Result Ending AheadFault) (unwritten : Bool) → result ≢ Err fault.Memory → IsTold result [] unwritten
-  untold (Ok end) unwritten other = refl
-  untold (Err fault.Read) unwritten other = refl
-  untold (Err fault.Write) unwritten other = refl
-  untold (Err fault.Memory) unwritten other = absurd (other refl)
-  untold (Err fault.Port) unwritten other = refl
+  unreported : (result : Result Ending AheadFault) (unwritten : Bool) → result ≢ Err fault.Memory → IsReported result [] unwritten
+  unreported (Ok end) unwritten other = refl
+  unreported (Err fault.Read) unwritten other = refl
+  unreported (Err fault.Write) unwritten other = refl
+  unreported (Err fault.Memory) unwritten other = absurd (other refl)
+  unreported (Err fault.Port) unwritten other = refl

@@ -188,11 +188,11 @@ pub same-traces : {A B G : Type 0} (trace : G → GateTrace) (f : A → G) (h : 
 same-traces trace f h xs ys same = sym (map-of-map trace f xs) ∙ ap (map trace) same ∙ map-of-map trace h ys
 
 -- what is known of the first of a list, and of the others
-pub none-told : {H X : Type 0} (f : H → X) (rest all : List H) → rest ≡ all → [] ++ map f rest ≡ map f all
-none-told f rest all is = ap (map f) is
+pub none-mapped : {H X : Type 0} (f : H → X) (rest all : List H) → rest ≡ all → [] ++ map f rest ≡ map f all
+none-mapped f rest all is = ap (map f) is
 
-pub one-told : {H X : Type 0} (f : H → X) (told : List X) (one : H) (rest later all : List H) → told ++ map f rest ≡ map f all → rest ≡ one ∷ later → (told ++ f one ∷ []) ++ map f later ≡ map f all
-one-told f told one rest later all are is = append_assoc told (f one ∷ []) (map f later) ∙ (ap (λ hs. told ++ map f hs) (sym is) ∙ are)
+pub one-mapped : {H X : Type 0} (f : H → X) (told : List X) (one : H) (rest later all : List H) → told ++ map f rest ≡ map f all → rest ≡ one ∷ later → (told ++ f one ∷ []) ++ map f later ≡ map f all
+one-mapped f told one rest later all are is = append_assoc told (f one ∷ []) (map f later) ∙ (ap (λ hs. told ++ map f hs) (sym is) ∙ are)
 
-pub all-told : {H X : Type 0} (f : H → X) (told : List X) (rest all : List H) → told ++ map f rest ≡ map f all → rest ≡ [] → told ≡ map f all
-all-told f told rest all are none = sym (append-nil told) ∙ (ap (λ hs. told ++ map f hs) (sym none) ∙ are)
+pub all-mapped : {H X : Type 0} (f : H → X) (told : List X) (rest all : List H) → told ++ map f rest ≡ map f all → rest ≡ [] → told ≡ map f all
+all-mapped f told rest all are none = sym (append-nil told) ∙ (ap (λ hs. told ++ map f hs) (sym none) ∙ are)

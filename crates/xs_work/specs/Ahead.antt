@@ -48,7 +48,7 @@ pub record BreaksOff
   pub rest : List ℕ
   pub more_is : more ≡ before ++ part
   pub after : SessionIsAfter manner read asked got (sent ++ before) session
-  pub owed_is : bytes_left session.owed ≡ part ++ rest
+  pub unsent_is : bytes_left session.owed ≡ part ++ rest
   pub some : 0 < length rest
 
 -- nothing is waited for or unsent

@@ -126,7 +126,7 @@ fn submit<P: Pause, T: Wait>(
 }
 
 /// Sends the unsent bytes, piece by piece.
-pub fn send_owed<W: Sink>(writer: &mut W, session: &mut Session) -> Result<(), AheadFault>
+pub fn send_unsent<W: Sink>(writer: &mut W, session: &mut Session) -> Result<(), AheadFault>
     ensures exact { (more : List ℕ) × Appends (W.held writer.old) (W.held writer.new) more × MatchResult result
         (λ _. more ≡ bytes_left session.old.owed) (λ _. IsPart more (bytes_left session.old.owed)) }
     ensures sends { (manner : Manner) (read : List ℕ) (asked : List Command) (got : List Reply) (sent : List ℕ) →
@@ -182,12 +182,12 @@ fn send_ready<W: Sink>(writer: &mut W, session: &mut Session) -> Result<(), Ahea
     ensures broken { OnErr result (W.broken writer.new ≡ true) }
 {
     gather_answers(session);
-    match send_owed(writer, session) {
+    match send_unsent(writer, session) {
         Ok(()) => {}
         Err(fault) => return Err(fault),
     }
     'answers: while gather_answers(session) {
-        match send_owed(writer, session) {
+        match send_unsent(writer, session) {
             Ok(()) => {}
             Err(fault) => return Err(fault),
         }
