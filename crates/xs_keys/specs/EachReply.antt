@@ -5,7 +5,7 @@ use Rattle.xs_command.specs.WellFormed.{IsWellFormed}
 use Rattle.xs_keys.specs.Content.{Content, IsContent}
 use Rattle.xs_keys.specs.Reply.{reply}
 use Rattle.xs_keys.specs.Step.{takes_memory, is_error, IsUnchangedIfRefused}
-use Rattle.xs_keys.specs.RepliesTell.{IsTold}
+use Rattle.xs_keys.specs.RepliesTell.{IsReported}
 use Rattle.xs_keys.specs.Event.{Event, History, event_moment, event_command}
 
 -- an event of the history: its command is well formed, and its reply is the model's, at the content after the events
@@ -15,7 +15,7 @@ pub record IsReplied (past : History) (now : ℕ) (command : Command) (answer : 
   pub content : Content
   pub left_by : IsContent content past
   pub answer_is : answer ≡ reply content now command
-  pub told : IsTold past now command answer
+  pub reported : IsReported past now command answer
   pub unchanged : IsUnchangedIfRefused content now command
 
 -- the command was answered OOM: it takes memory, and the model refuses nothing
