@@ -32,8 +32,8 @@ JoinsOrIsLeftOut past now command answer next =
     (IsReplied past now command answer × (next ≡ (now, command) ∷ past))
     ⊎ (IsLeftOut past now command answer × (next ≡ past))
 
--- after a past, each of these events in turn was replied to by the answer at its place, and the last history has those
--- events that joined it
+-- after a past, each of these events, in order, was replied to by the answer at its place, and the last history has
+-- those events that joined it
 abbrev pub AreReplied : History → List Event → List Reply → History → Type 0
 AreReplied past [] [] last = last ≡ past
 AreReplied past (e ∷ run) (answer ∷ answers) last =
