@@ -11,7 +11,7 @@ field = do
   text ← word
   value (record { name = name; value = text })
 
--- the words as names and values in turn
+-- the words as names and values, one after the other
 unfoldable pub pairs : List (List ℕ) → List Field
 pairs [] = []
 pairs (name ∷ []) = []

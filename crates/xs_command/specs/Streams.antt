@@ -37,7 +37,7 @@ abbrev pub read_before :
 read_before key (Err fault) more = Err fault
 read_before key (Ok read) more = before (record { key = key; from = read.0 }) (more read.1)
 
--- each key with its start, in turn
+-- each key with its start, in order
 unfoldable pub each_from : List (List ℕ) → Reading (List ReadOne)
 each_from [] froms = Ok []
 each_from (key ∷ keys) froms = read_before key (read_from froms) (each_from keys)

@@ -34,7 +34,7 @@ pub fn read_options<'a, S: Options>(
 {
     let mut state = none;
     let mut left = words;
-    for _turn in 0..left.len() {
+    for _option in 0..left.len() {
         let Ok((name, rest)) = left.word() else {
             return Ok((state, left));
         };

@@ -209,7 +209,7 @@ impl<'a> Words<'a> {
         let mut items = Vec::with_capacity(alloc, self.len() + 1)?;
         items.push(first)?;
         let mut left = self;
-        for _turn in 0..left.len() {
+        for _id in 0..left.len() {
             let Ok((id, behind)) = left.id() else {
                 items.shrink_to_fit();
                 return Ok((Operands::many(items), left));

@@ -117,7 +117,7 @@ fn read_field<'a>(alloc: Global, words: &Words<'a>) -> Result<(Field, Words<'a>)
     Ok((Field { name, value }, words))
 }
 
-/// The words as names and values in turn.
+/// The words as names and values, one after the other.
 fn read_pairs(alloc: Global, words: Words<'_>) -> Result<List<Field>, Refusal>
     ensures { Gives result (Ok (pairs words.entry)) }
 {
@@ -132,7 +132,7 @@ fn read_pairs(alloc: Global, words: Words<'_>) -> Result<List<Field>, Refusal>
     Ok(List::new(items))
 }
 
-/// All the words, names and values in turn, one pair or more.
+/// All the words, each name before its value, one pair or more.
 #[tactic(auto, unfolding(crate::specs::Fields::fields))]
 fn read_fields(alloc: Global, words: Words<'_>) -> Result<List<Field>, Refusal>
     ensures { Gives result (fields words.entry) }

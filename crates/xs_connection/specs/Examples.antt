@@ -99,11 +99,11 @@ pub record Telling : Type 0 where
       Tells (codes "FOO a b") (ErrorText (codes "ERR unknown command 'FOO', with args beginning with: 'a' 'b' "))
 
 -- the connection in a list of all
-abbrev pub told_of_itself : List ℕ
-told_of_itself = codes "id=3 name=app db=0 user=default resp=2" ++ 10 ∷ []
+abbrev pub own_line : List ℕ
+own_line = codes "id=3 name=app db=0 user=default resp=2" ++ 10 ∷ []
 
 pub record Lists : Type 0 where
-  pub itself : Tells (codes "CLIENT LIST") (Bulk told_of_itself)
+  pub itself : Tells (codes "CLIENT LIST") (Bulk own_line)
 
 -- what a connection states about itself
 pub record Standings : Type 0 where

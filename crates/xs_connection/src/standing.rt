@@ -81,7 +81,7 @@ fn nothing(alloc: Global) -> Reply
 }
 
 /// The text of INFO, if the command is INFO.
-fn told_for<I: Inform>(
+fn information_for<I: Inform>(
     alloc: Global,
     inform: &I,
     command: &ConnectionCommand,
@@ -205,7 +205,7 @@ impl Standing {
     {
         match read_connection_command(alloc, words) {
             Ok(command) => {
-                let told = told_for(alloc, inform, &command, words)?;
+                let told = information_for(alloc, inform, &command, words)?;
                 self.answer_command(alloc, wanted, told, command)
             }
             Err(Refusal::Said(Fault::UnknownCommand)) => {

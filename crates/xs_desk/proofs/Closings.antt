@@ -6,7 +6,7 @@ use Rattle.std.proofs.lemmas.List.{set-get_or}
 use Rattle.std.proofs.lemmas.Option.{slice_get_read}
 use Rattle.xs_desk.specs.declared.lane_end.LaneEnd.{LaneEnd}
 use Rattle.xs_desk.specs.declared.summary.LaneSummary.{LaneSummary}
-use Rattle.xs_desk.specs.History.{LaneOf}
+use Rattle.xs_desk.specs.ServedCalls.{LaneOf}
 use Rattle.xs_desk.specs.LaneEnds.{lane_of}
 use Rattle.xs_desk.specs.Callers.{Caller, AreEndsOfLanes, IsSide}
 use Rattle.xs_desk.specs.Closing.{SumsUp, SumUp}

@@ -12,27 +12,27 @@ use Rattle.xs_replay.specs.Calls.{Call, Serves, log_of, survivors}
 use Rattle.xs_replay.proofs.Served.{all-survive}
 use Rattle.xs_desk.specs.declared.answer.Answer.{Answer}
 use Rattle.xs_desk.specs.declared.lane_end.LaneEnd.{LaneEnd}
-use Rattle.xs_desk.specs.History.{ServedCall, Desk, of_lane, answers_of, IsHistory}
-use Rattle.xs_desk.specs.KeeperTurns.{Turns, HistoryGoesOn}
+use Rattle.xs_desk.specs.ServedCalls.{ServedCall, Desk, of_lane, answers_of, AreCallsOf}
+use Rattle.xs_desk.specs.KeeperTurns.{Turns, ExtendsCalls}
 use Rattle.xs_desk.specs.LaneEnds.{lane_of, desk_of, handed_out}
 use Rattle.xs_desk.specs.Noting.{KeepsAtOnce}
 use Rattle.xs_desk.specs.Durable.{AreMarked, NotesAll, NotesTurn, IsDurable}
 use Rattle.xs_desk.proofs.Lists.{some-of-map}
 use Rattle.xs_desk.proofs.Notings.{serves-join, log-join, marks-join}
-use Rattle.xs_desk.proofs.Histories.{history-runs, history-goes-on}
+use Rattle.xs_desk.proofs.ServedCalls.{calls-run, calls-go-on}
 
-marked-length : (marked : List Call) (history : List ServedCall) → AreMarked marked history → length marked ≡ length history
-marked-length marked history marks = sym (length-map marked (λ c. c.event)) ∙ ap length marks.events ∙ length-map history (λ c. (c.answer.moment, c.command))
+marked-length : (marked : List Call) (so_far : List ServedCall) → AreMarked marked so_far → length marked ≡ length so_far
+marked-length marked so_far marks = sym (length-map marked (λ c. c.event)) ∙ ap length marks.events ∙ length-map so_far (λ c. (c.answer.moment, c.command))
 
 -- the lane's answers begin with those that were handed out
-pub handed-first : (ends : List LaneEnd) (keyspace : Content) (place : ℕ) (start : Content) (history : List ServedCall) → IsHistory history (desk_of ends keyspace place start)
-    → (k : ℕ) (lane_end : LaneEnd) → slice_get ends k ≡ Some lane_end → IsPrefix (handed_out lane_end) (answers_of (of_lane k history))
-handed-first ends keyspace place start history is k lane_end at =
+pub handed-first : (ends : List LaneEnd) (keyspace : Content) (place : ℕ) (start : Content) (so_far : List ServedCall) → AreCallsOf so_far (desk_of ends keyspace place start)
+    → (k : ℕ) (lane_end : LaneEnd) → slice_get ends k ≡ Some lane_end → IsPrefix (handed_out lane_end) (answers_of (of_lane k so_far))
+handed-first ends keyspace place start so_far is k lane_end at =
     let here = is.lanes k (lane_of lane_end) (slice_get-map lane_of ends k ∙ ap (option_map lane_of) at) in
     (lane_end.answers.held_back.items, here.1)
 
 module _ {J : Type 0} (has : J → List Event → ℕ → Type 0) where
-  pub durable-none : (ends : List LaneEnd) (keyspace : Content) (place : ℕ) (start : Content) (journal : J) → IsHistory [] (desk_of ends keyspace place start) → start ≡ keyspace → has journal [] 0
+  pub durable-none : (ends : List LaneEnd) (keyspace : Content) (place : ℕ) (start : Content) (journal : J) → AreCallsOf [] (desk_of ends keyspace place start) → start ≡ keyspace → has journal [] 0
       → IsDurable has [] ends start keyspace journal
   durable-none ends keyspace place start journal is same h = record {
     marked = [];
@@ -47,67 +47,67 @@ module _ {J : Type 0} (has : J → List Event → ℕ → Type 0) where
   }
 
   -- some more calls, whose answers are held back
-  held-back : (history : List ServedCall) (ends others : List LaneEnd) (start old new : Content) (before after : J) (calls : List ServedCall)
-      → IsDurable has history ends start old before → NotesAll has before calls old new after → map handed_out others ≡ map handed_out ends → IsDurable has (history ++ calls) others start new after
-  held-back history ends others start old new before after calls d n same =
-      let many : d.settled ≤ length d.marked = omega (arith, d.within, marked-length d.marked history d.marks) in
+  held-back : (so_far : List ServedCall) (ends others : List LaneEnd) (start old new : Content) (before after : J) (calls : List ServedCall)
+      → IsDurable has so_far ends start old before → NotesAll has before calls old new after → map handed_out others ≡ map handed_out ends → IsDurable has (so_far ++ calls) others start new after
+  held-back so_far ends others start old new before after calls d n same =
+      let many : d.settled ≤ length d.marked = omega (arith, d.within, marked-length d.marked so_far d.marks) in
       record {
         marked = d.marked ++ n.marked;
-        marks = marks-join d.marked n.marked history calls d.marks n.marks;
+        marks = marks-join d.marked n.marked so_far calls d.marks n.marks;
         served = serves-join start d.marked old n.marked new d.served n.served;
         settled = d.settled;
-        within = omega (arith, d.within, length-append history calls);
+        within = omega (arith, d.within, length-append so_far calls);
         kept = d.kept;
         journal_has = subst (λ es. has after es d.kept) (sym (log-join d.marked n.marked)) (n.noted (log_of d.marked) d.kept d.journal_has);
         are_kept = subst (λ cs. length (log_of cs) ≤ d.kept) (sym (take-append-le d.settled d.marked n.marked many)) d.are_kept;
         handed = λ k lane_end at.
             let there : slice_get (map handed_out ends) k ≡ Some (handed_out lane_end) = ap (λ hs. slice_get hs k) (sym same) ∙ slice_get-map handed_out others k ∙ ap (option_map handed_out) at in
             let l = some-of-map handed_out ends k (handed_out lane_end) there in
-            subst (λ h. IsPrefix (handed_out lane_end) (answers_of (of_lane k h))) (sym (take-append-le d.settled history calls d.within))
-            (subst (λ a. IsPrefix a (answers_of (of_lane k (take d.settled history)))) l.2 (d.handed k l.0 l.1));
+            subst (λ h. IsPrefix (handed_out lane_end) (answers_of (of_lane k h))) (sym (take-append-le d.settled so_far calls d.within))
+            (subst (λ a. IsPrefix a (answers_of (of_lane k (take d.settled so_far)))) l.2 (d.handed k l.0 l.1));
       }
 
   -- all that was noted is kept
-  all-kept : (history : List ServedCall) (others : List LaneEnd) (start new : Content) (marked : List Call) (after : J)
-      → AreMarked marked history → Serves start marked new → has after (log_of marked) (length (log_of marked))
-      → ((k : ℕ) (lane_end : LaneEnd) → slice_get others k ≡ Some lane_end → IsPrefix (handed_out lane_end) (answers_of (of_lane k history)))
-      → IsDurable has history others start new after
-  all-kept history others start new marked after marks served h handed =
-      let all : take (length history) marked ≡ marked = take_all (length history) marked (omega (arith, marked-length marked history marks)) in
+  all-kept : (so_far : List ServedCall) (others : List LaneEnd) (start new : Content) (marked : List Call) (after : J)
+      → AreMarked marked so_far → Serves start marked new → has after (log_of marked) (length (log_of marked))
+      → ((k : ℕ) (lane_end : LaneEnd) → slice_get others k ≡ Some lane_end → IsPrefix (handed_out lane_end) (answers_of (of_lane k so_far)))
+      → IsDurable has so_far others start new after
+  all-kept so_far others start new marked after marks served h handed =
+      let all : take (length so_far) marked ≡ marked = take_all (length so_far) marked (omega (arith, marked-length marked so_far marks)) in
       record {
         marked = marked;
         marks = marks;
         served = served;
-        settled = length history;
+        settled = length so_far;
         within = omega arith;
         kept = length (log_of marked);
         journal_has = h;
         are_kept = omega (arith, ap (λ cs. length (log_of cs)) all);
-        handed = λ k lane_end at. subst (λ h. IsPrefix (handed_out lane_end) (answers_of (of_lane k h))) (sym (take_all (length history) history (omega arith))) (handed k lane_end at);
+        handed = λ k lane_end at. subst (λ h. IsPrefix (handed_out lane_end) (answers_of (of_lane k h))) (sym (take_all (length so_far) so_far (omega arith))) (handed k lane_end at);
       }
 
-  pub durable-more : (history : List ServedCall) (ends others : List LaneEnd) (start old new : Content) (before after : J) (calls : List ServedCall)
-      → IsDurable has history ends start old before → NotesAll has before calls old new after → (map handed_out others ≡ map handed_out ends) ⊎ KeepsAtOnce has
-      → ((k : ℕ) (lane_end : LaneEnd) → slice_get others k ≡ Some lane_end → IsPrefix (handed_out lane_end) (answers_of (of_lane k (history ++ calls))))
-      → IsDurable has (history ++ calls) others start new after
-  durable-more history ends others start old new before after calls d n (inl same) handed = held-back history ends others start old new before after calls d n same
-  durable-more history ends others start old new before after calls d n (inr at_once) handed =
+  pub durable-more : (so_far : List ServedCall) (ends others : List LaneEnd) (start old new : Content) (before after : J) (calls : List ServedCall)
+      → IsDurable has so_far ends start old before → NotesAll has before calls old new after → (map handed_out others ≡ map handed_out ends) ⊎ KeepsAtOnce has
+      → ((k : ℕ) (lane_end : LaneEnd) → slice_get others k ≡ Some lane_end → IsPrefix (handed_out lane_end) (answers_of (of_lane k (so_far ++ calls))))
+      → IsDurable has (so_far ++ calls) others start new after
+  durable-more so_far ends others start old new before after calls d n (inl same) handed = held-back so_far ends others start old new before after calls d n same
+  durable-more so_far ends others start old new before after calls d n (inr at_once) handed =
       let marked = d.marked ++ n.marked in
       let h : has after (log_of marked) d.kept = subst (λ es. has after es d.kept) (sym (log-join d.marked n.marked)) (n.noted (log_of d.marked) d.kept d.journal_has) in
-      all-kept (history ++ calls) others start new marked after (marks-join d.marked n.marked history calls d.marks n.marks) (serves-join start d.marked old n.marked new d.served n.served) (at_once after (log_of marked) d.kept h) handed
+      all-kept (so_far ++ calls) others start new marked after (marks-join d.marked n.marked so_far calls d.marks n.marks) (serves-join start d.marked old n.marked new d.served n.served) (at_once after (log_of marked) d.kept h) handed
 
   -- all that was held back is handed out
-  pub durable-settled : (history : List ServedCall) (ends others : List LaneEnd) (start content : Content) (before after : J) → IsDurable has history ends start content before
+  pub durable-settled : (so_far : List ServedCall) (ends others : List LaneEnd) (start content : Content) (before after : J) → IsDurable has so_far ends start content before
       → ((events : List Event) (kept : ℕ) → has before events kept → has after events (length events))
-      → ((k : ℕ) (lane_end : LaneEnd) → slice_get others k ≡ Some lane_end → IsPrefix (handed_out lane_end) (answers_of (of_lane k history)))
-      → IsDurable has history others start content after
-  durable-settled history ends others start content before after d keeps handed =
-      all-kept history others start content d.marked after d.marks d.served (keeps (log_of d.marked) d.kept d.journal_has) handed
+      → ((k : ℕ) (lane_end : LaneEnd) → slice_get others k ≡ Some lane_end → IsPrefix (handed_out lane_end) (answers_of (of_lane k so_far)))
+      → IsDurable has so_far others start content after
+  durable-settled so_far ends others start content before after d keeps handed =
+      all-kept so_far others start content d.marked after d.marks d.served (keeps (log_of d.marked) d.kept d.journal_has) handed
 
   -- the log has failed
-  pub durable-failed : (history : List ServedCall) (ends : List LaneEnd) (start content : Content) (before after : J) → IsDurable has history ends start content before
-      → ((events : List Event) (kept : ℕ) → has before events kept → has after events kept) → IsDurable has history ends start content after
-  durable-failed history ends start content before after d keeps = record {
+  pub durable-failed : (so_far : List ServedCall) (ends : List LaneEnd) (start content : Content) (before after : J) → IsDurable has so_far ends start content before
+      → ((events : List Event) (kept : ℕ) → has before events kept → has after events kept) → IsDurable has so_far ends start content after
+  durable-failed so_far ends start content before after d keeps = record {
     marked = d.marked;
     marks = d.marks;
     served = d.served;
@@ -134,39 +134,39 @@ module _ {J : Type 0} (has : J → List Event → ℕ → Type 0) where
 
   pub turn-keeps : {C E : Type 0} (gives : C → ℕ → C → Type 0) (clock : C) (before : J) (ends : List LaneEnd) (high : ℕ) (later : C) (after : J) (others : List LaneEnd) (Z : Type 0) (r : Result ℕ E)
       (old new start begin : Content) (place next : ℕ) → begin ≡ start
-      → ((history : List ServedCall) × IsHistory history (desk_of ends old place start) × IsDurable has history ends start old before)
+      → ((so_far : List ServedCall) × AreCallsOf so_far (desk_of ends old place start) × IsDurable has so_far ends start old before)
       → MatchResult r (λ n. NotesTurn has gives (desk_of ends old place start) clock before ends n high (desk_of others new next start) later after others)
       (λ _. (n : ℕ) × NotesTurn has gives (desk_of ends old place start) clock before ends n high (desk_of others new next start) later after others × Z)
-      → (history : List ServedCall) × IsHistory history (desk_of others new next begin) × IsDurable has history others begin new after
+      → (so_far : List ServedCall) × AreCallsOf so_far (desk_of others new next begin) × IsDurable has so_far others begin new after
   turn-keeps gives clock before ends high later after others Z r old new start begin place next same h m =
       let t = (notes-anyhow gives (desk_of ends old place start) clock before ends high (desk_of others new next start) later after others Z r m).1 in
-      let is = history-runs h.0 (desk_of ends old place start) t.turns.calls (desk_of others new next start) h.1 t.turns.served in
-      subst (λ b. (history : List ServedCall) × IsHistory history (desk_of others new next b) × IsDurable has history others b new after) (sym same)
+      let is = calls-run h.0 (desk_of ends old place start) t.turns.calls (desk_of others new next start) h.1 t.turns.served in
+      subst (λ b. (so_far : List ServedCall) × AreCallsOf so_far (desk_of others new next b) × IsDurable has so_far others b new after) (sym same)
       (h.0 ++ t.turns.calls, is, durable-more h.0 ends others start old new before after t.turns.calls h.2 t.notes t.handed (handed-first others new next start (h.0 ++ t.turns.calls) is))
 
   pub turn-goes-on : {C : Type 0} (gives : C → ℕ → C → Type 0) (clock : C) (before : J) (ends : List LaneEnd) (later : C) (after : J) (others : List LaneEnd) (n : ℕ)
       (old new start begin : Content) (place next : ℕ) → begin ≡ start
-      → ((history : List ServedCall) × IsHistory history (desk_of ends old place start) × IsDurable has history ends start old before)
+      → ((so_far : List ServedCall) × AreCallsOf so_far (desk_of ends old place start) × IsDurable has so_far ends start old before)
       → NotesTurn has gives (desk_of ends old place start) clock before ends n (length ends) (desk_of others new next start) later after others
-      → HistoryGoesOn gives (desk_of ends old place start) clock n (length (map lane_of ends)) (desk_of others new next begin) later
+      → ExtendsCalls gives (desk_of ends old place start) clock n (length (map lane_of ends)) (desk_of others new next begin) later
   turn-goes-on gives clock before ends later after others n old new start begin place next same h t =
-      subst (λ b. HistoryGoesOn gives (desk_of ends old place start) clock n (length (map lane_of ends)) (desk_of others new next b) later) (sym same)
-      (subst (λ high. HistoryGoesOn gives (desk_of ends old place start) clock n high (desk_of others new next start) later) (sym (length-map ends lane_of))
-      (history-goes-on gives (desk_of ends old place start) clock n (length ends) (desk_of others new next start) later h.0 h.1 t.turns))
+      subst (λ b. ExtendsCalls gives (desk_of ends old place start) clock n (length (map lane_of ends)) (desk_of others new next b) later) (sym same)
+      (subst (λ high. ExtendsCalls gives (desk_of ends old place start) clock n high (desk_of others new next start) later) (sym (length-map ends lane_of))
+      (calls-go-on gives (desk_of ends old place start) clock n (length ends) (desk_of others new next start) later h.0 h.1 t.turns))
 
   pub settle-keeps : (ends others : List LaneEnd) (keyspace : Content) (place : ℕ) (start begin : Content) (before after : J) → begin ≡ start → map lane_of others ≡ map lane_of ends
       → ((events : List Event) (kept : ℕ) → has before events kept → has after events (length events))
-      → ((history : List ServedCall) × IsHistory history (desk_of ends keyspace place start) × IsDurable has history ends start keyspace before)
-      → (history : List ServedCall) × IsHistory history (desk_of others keyspace place begin) × IsDurable has history others begin keyspace after
+      → ((so_far : List ServedCall) × AreCallsOf so_far (desk_of ends keyspace place start) × IsDurable has so_far ends start keyspace before)
+      → (so_far : List ServedCall) × AreCallsOf so_far (desk_of others keyspace place begin) × IsDurable has so_far others begin keyspace after
   settle-keeps ends others keyspace place start begin before after same lanes keeps h =
-      let is = subst (λ ls. IsHistory h.0 (record { lanes = ls; keyspace = keyspace; place = place; start = start })) (sym lanes) h.1 in
-      subst (λ b. (history : List ServedCall) × IsHistory history (desk_of others keyspace place b) × IsDurable has history others b keyspace after) (sym same)
+      let is = subst (λ ls. AreCallsOf h.0 (record { lanes = ls; keyspace = keyspace; place = place; start = start })) (sym lanes) h.1 in
+      subst (λ b. (so_far : List ServedCall) × AreCallsOf so_far (desk_of others keyspace place b) × IsDurable has so_far others b keyspace after) (sym same)
       (h.0, is, durable-settled h.0 ends others start keyspace before after h.2 keeps (handed-first others keyspace place start h.0 is))
 
-  pub survives : (history : List ServedCall) (ends : List LaneEnd) (start content : Content) (journal : J) → IsDurable has history ends start content journal
-      → (marked : List Call) × (kept : ℕ) × AreMarked marked history × Serves start marked content × has journal (log_of marked) kept × ((found : ℕ) → kept ≤ found → (settled : ℕ) × ((more : List Call) × (survivors found marked ≡ take settled marked ++ more))
-      × ((k : ℕ) (lane_end : LaneEnd) → slice_get ends k ≡ Some lane_end → IsPrefix (handed_out lane_end) (answers_of (of_lane k (take settled history)))))
-  survives history ends start content journal d = (
+  pub survives : (so_far : List ServedCall) (ends : List LaneEnd) (start content : Content) (journal : J) → IsDurable has so_far ends start content journal
+      → (marked : List Call) × (kept : ℕ) × AreMarked marked so_far × Serves start marked content × has journal (log_of marked) kept × ((found : ℕ) → kept ≤ found → (settled : ℕ) × ((more : List Call) × (survivors found marked ≡ take settled marked ++ more))
+      × ((k : ℕ) (lane_end : LaneEnd) → slice_get ends k ≡ Some lane_end → IsPrefix (handed_out lane_end) (answers_of (of_lane k (take settled so_far)))))
+  survives so_far ends start content journal d = (
     d.marked,
     d.kept,
     d.marks,

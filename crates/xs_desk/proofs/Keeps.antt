@@ -6,7 +6,7 @@ use Rattle.std.proofs.Math.Seq.{map-set_same}
 use Rattle.std.proofs.lemmas.Option.{get_or_from_slice_get, slice_get-map, slice_get_within}
 use Rattle.std.proofs.lemmas.List.{length-map}
 use Rattle.std.specs.Option.{option_map}
-use Rattle.xs_desk.specs.History.{Ring, LaneOf, Desk, ServedCall}
+use Rattle.xs_desk.specs.ServedCalls.{Ring, LaneOf, Desk, ServedCall}
 use Rattle.xs_desk.specs.KeeperTurns.{with_call, ServesCall, ServesAll, Turns}
 use Rattle.xs_desk.specs.Callers.{Caller, IsEndOf, AreEndsOfLanes, IsSide}
 use Rattle.xs_desk.specs.Opening.{AreNew}

@@ -1,5 +1,5 @@
 pub mod Lists
-pub mod Histories
+pub mod ServedCalls
 pub mod Turning
 pub mod Looking
 pub mod Closings

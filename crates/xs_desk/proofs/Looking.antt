@@ -8,7 +8,7 @@ use Rattle.std.specs.Option.{option_map}
 use Rattle.xs_keys.specs.Event.{Event}
 use Rattle.xs_keys.specs.Content.{Content}
 use Rattle.xs_desk.specs.declared.lane_end.LaneEnd.{LaneEnd}
-use Rattle.xs_desk.specs.History.{Desk, ServedCall}
+use Rattle.xs_desk.specs.ServedCalls.{Desk, ServedCall}
 use Rattle.xs_desk.specs.KeeperTurns.{ServesCall, HasPlaces}
 use Rattle.xs_desk.specs.LaneEnds.{lane_of, desk_of, handed_out, scene, Answers}
 use Rattle.xs_desk.specs.Noting.{KeepsAtOnce}

@@ -9,7 +9,7 @@ use Rattle.xs_command.specs.WellFormed.{IsWellFormed}
 use Rattle.xs_replay.specs.Calls.{Call, ServesOne, Serves, log_of}
 use Rattle.xs_replay.specs.Calls as replay
 use Rattle.xs_desk.specs.declared.lane_end.LaneEnd.{LaneEnd}
-use Rattle.xs_desk.specs.History.{ServedCall, Desk, events_of, replies_of}
+use Rattle.xs_desk.specs.ServedCalls.{ServedCall, Desk, events_of, replies_of}
 use Rattle.xs_desk.specs.KeeperTurns.{ServesCall, Turns}
 use Rattle.xs_desk.specs.Noting.{event_if, Notes, KeepsAtOnce}
 use Rattle.xs_desk.specs.LaneEnds.{handed_out}

@@ -6,7 +6,7 @@ use Rattle.xs_keys.specs.Content.{Content}
 use Rattle.xs_keys.specs.Headline.{RunsOn}
 use Rattle.xs_replay.proofs.Served.{nothing-runs}
 use Rattle.xs_desk.specs.declared.lane_end.LaneEnd.{LaneEnd}
-use Rattle.xs_desk.specs.History.{LaneOf, IsHistory}
+use Rattle.xs_desk.specs.ServedCalls.{LaneOf, AreCallsOf}
 use Rattle.xs_desk.specs.LaneEnds.{lane_of, desk_of}
 use Rattle.xs_desk.specs.Callers.{Caller}
 use Rattle.xs_desk.specs.Opening.{IsNewLane, AreNew}
@@ -30,8 +30,8 @@ new-lane k depth [] (y ∷ ys) a j l e = absurd a
 new-lane k depth (x ∷ xs) (y ∷ ys) a zero l e = let q : x ≡ l = cc in (ap (λ (z : LaneOf). z.popped) (sym q) ∙ a.0.popped, ap (λ (z : LaneOf). z.sent) (sym q) ∙ a.0.sent)
 new-lane k depth (x ∷ xs) (y ∷ ys) a (suc j) l e = new-lane (k + 1) depth xs ys a.1 j l e
 
-pub new_history : (depth : ℕ) (all : List LaneEnd) (cs : List Caller) (keyspace start : Content) → start ≡ keyspace → AreNew 0 depth (map lane_of all) cs → IsHistory [] (desk_of all keyspace 0 start)
-new_history depth all cs keyspace start same a = record {
+pub no_calls_of_new : (depth : ℕ) (all : List LaneEnd) (cs : List Caller) (keyspace start : Content) → start ≡ keyspace → AreNew 0 depth (map lane_of all) cs → AreCallsOf [] (desk_of all keyspace 0 start)
+no_calls_of_new depth all cs keyspace start same a = record {
   places = λ i n e. absurd (cc);
   tickets = λ k i n e. absurd (cc);
   lanes = new-lane 0 depth (map lane_of all) cs a;

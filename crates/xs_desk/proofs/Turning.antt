@@ -2,7 +2,7 @@
 use Rattle.std.specs.Prelude.{◌≡◌, ℕ, ◌+◌, ◌≤◌, List, [], ◌∷◌, ◌++◌, length, slice_get, Some, Result, Ok, Err}
 use Rattle.std.specs.Prelude.{MatchResult, refl}
 use Rattle.std.proofs.Common.{subst, ap, inl, inr, arith, length-append}
-use Rattle.xs_desk.specs.History.{ServedCall, Desk}
+use Rattle.xs_desk.specs.ServedCalls.{ServedCall, Desk}
 use Rattle.xs_desk.specs.KeeperTurns.{with_call, ServesCall, ServesAll, TellsMoments, LanesAscend, Turns, HasPlaces}
 use Rattle.xs_desk.proofs.Lists.{set-cases}
 

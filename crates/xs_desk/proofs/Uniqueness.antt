@@ -1,4 +1,4 @@
--- A desk has at most one history: an answer of a lane contains its place.
+-- Only one list is that of the calls of a desk: an answer of a lane contains its place.
 use Rattle.std.specs.Prelude.{◌≡◌, ℕ, zero, suc, ◌<◌, ◌==◌, true, false, List, [], ◌∷◌, length, map, slice_get, Some}
 use Rattle.std.specs.Prelude.{All, if◌then◌else◌, refl}
 use Rattle.std.proofs.Common.{sym, ◌∙◌, ap, subst, arith}
@@ -8,7 +8,7 @@ use Rattle.std.proofs.lemmas.Bool.Decides.{nat_tests}
 use Rattle.std.specs.Option.{option_map}
 use Rattle.xs_command.specs.declared.command.Command.{Command}
 use Rattle.xs_desk.specs.declared.answer.Answer.{Answer}
-use Rattle.xs_desk.specs.History.{ServedCall, Desk, of_lane, commands_of, answers_of, IsHistory}
+use Rattle.xs_desk.specs.ServedCalls.{ServedCall, Desk, of_lane, commands_of, answers_of, AreCallsOf}
 use Rattle.xs_desk.proofs.Lists.{same_some, some-at, some-of-map, same-lists}
 
 at-place : {X : Type 0} (P : X → Type 0) (xs : List X) (i : ℕ) (x : X) → All P xs → slice_get xs i ≡ Some x → P x
@@ -50,8 +50,8 @@ among-all k (x ∷ xs) i call e =
       | false ↦ λ is at. let r = among-all k xs i call at in (suc r.0, r.1, r.2)
     ]) refl e
 
-pub same-history : (desk : Desk) (one other : List ServedCall) → IsHistory one desk → IsHistory other desk → one ≡ other
-same-history desk one other a b =
+pub same-calls : (desk : Desk) (one other : List ServedCall) → AreCallsOf one desk → AreCallsOf other desk → one ≡ other
+same-calls desk one other a b =
     same-lists one other (sym a.next ∙ b.next) (λ j call at.
     let mine = in-its-lane one j call at in
     let within : call.lane < length desk.lanes = at-place (λ c. c.lane < length desk.lanes) one j call a.within at in

@@ -10,7 +10,7 @@ use Rattle.xs_desk.specs.declared.answer.Answer.{Answer}
 use Rattle.xs_desk.specs.declared.answer.Call.{Call}
 use Rattle.xs_desk.specs.declared.answer.Formed.{Formed}
 use Rattle.xs_desk.specs.Calls.{asked_by}
-use Rattle.xs_desk.specs.History.{Ring, LaneOf}
+use Rattle.xs_desk.specs.ServedCalls.{Ring, LaneOf}
 use Rattle.xs_desk.specs.Rings.{producer_ring, consumer_ring}
 
 -- a client: the number of its lane, the commands submitted, the answers taken, the rings of both, and the number of

@@ -4,7 +4,7 @@ use mathlib.Core.List.{IsPrefix}
 use Rattle.xs_desk.specs.declared.closing.CloseError.{CloseError}
 use Rattle.xs_desk.specs.declared.closing.CloseError.TheVariants.{Unfinished, Memory}
 use Rattle.xs_desk.specs.declared.summary.LaneSummary.{LaneSummary}
-use Rattle.xs_desk.specs.History.{LaneOf, Desk}
+use Rattle.xs_desk.specs.ServedCalls.{LaneOf, Desk}
 use Rattle.xs_desk.specs.Callers.{Caller, HasEndOfLane}
 
 -- The calls that were taken from the lane are the first of those submitted, each of them was answered, and the answers

@@ -2,7 +2,7 @@
 use Rattle.std.specs.Prelude.{◌≡◌, ℕ, ◌+◌, ◌≤◌, List, [], ◌∷◌, ◌++◌, length, slice_get, slice_set, Some}
 use Rattle.xs_command.specs.WellFormed.{IsWellFormed}
 use Rattle.xs_keys.specs.Step.{Step}
-use Rattle.xs_desk.specs.History.{ServedCall, LaneOf, Desk, IsHistory}
+use Rattle.xs_desk.specs.ServedCalls.{ServedCall, LaneOf, Desk, AreCallsOf}
 
 -- a lane with one call more
 abbrev pub with_call : LaneOf → ServedCall → LaneOf
@@ -50,15 +50,14 @@ pub record Turns
   pub moments : TellsMoments gives clock calls later
   pub counted : count ≡ length calls
 
--- A turn that extends the history of the desk by its calls: the calls served before are the history before it, and with
--- the calls of the turn after them they are the history after it, from the same start.
-pub record HistoryGoesOn
+-- A turn that extends the calls of the desk: its calls come after those before it, and the start stays the same.
+pub record ExtendsCalls
     {C : Type 0} (gives : C → ℕ → C → Type 0) (old : Desk) (clock : C) (count high : ℕ) (new : Desk) (later : C)
     : Type 0 where
   pub turns : Turns gives old clock count high new later
   pub before : List ServedCall
-  pub old_is : IsHistory before old
-  pub new_is : IsHistory (before ++ turns.calls) new
+  pub old_is : AreCallsOf before old
+  pub new_is : AreCallsOf (before ++ turns.calls) new
   pub start_is : new.start ≡ old.start
 
 -- no lane has more answers than places were given

@@ -1,6 +1,6 @@
 -- What every call keeps: the rings, and the number of the lane.
 use Rattle.std.specs.Prelude.{◌≡◌, ℕ, List, map, slice_get, Some}
-use Rattle.xs_desk.specs.History.{Ring, LaneOf, Desk}
+use Rattle.xs_desk.specs.ServedCalls.{Ring, LaneOf, Desk}
 use Rattle.xs_desk.specs.Callers.{Caller}
 
 abbrev pub rings_of : LaneOf → Ring × Ring

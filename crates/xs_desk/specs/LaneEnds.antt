@@ -12,7 +12,7 @@ use Rattle.xs_desk.specs.declared.answer.Answer.{Answer}
 use Rattle.xs_desk.specs.declared.lane_end.Look.{Look}
 use Rattle.xs_desk.specs.declared.lane_end.Look.TheVariants.{Idle, Blocked, Served, Exhausted}
 use Rattle.xs_desk.specs.declared.lane_end.LaneEnd.{LaneEnd}
-use Rattle.xs_desk.specs.History.{LaneOf, Desk}
+use Rattle.xs_desk.specs.ServedCalls.{LaneOf, Desk}
 use Rattle.xs_desk.specs.Calls.{asked_by}
 use Rattle.xs_desk.specs.Noting.{Notes, KeepsAtOnce}
 use Rattle.xs_desk.specs.Outbox.{given, IsFull}

@@ -1,7 +1,7 @@
 pub mod Calls
 pub mod Outbox
 pub mod Noting
-pub mod History
+pub mod ServedCalls
 pub mod Rings
 pub mod KeeperTurns
 pub mod LaneEnds

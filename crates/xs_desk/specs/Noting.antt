@@ -8,6 +8,10 @@ use Rattle.xs_replay.specs.Calls.{KeepsTheRule}
 abbrev pub event_if : Bool → Event → List Event
 event_if in_log event = if in_log then event ∷ [] else []
 
+-- without a log nothing is stated of events: a crash leaves nothing of them
+abbrev pub HasNoLog : {J : Type 0} → J → List Event → ℕ → Type 0
+HasNoLog journal events kept = Unit {0}
+
 module _ {J : Type 0} (has : J → List Event → ℕ → Type 0) where
   -- an event was noted, or left out because it changed nothing
   pub record Notes (before : J) (event : Event) (old new : Content) (later : J) : Type 0 where

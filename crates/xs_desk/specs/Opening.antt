@@ -2,7 +2,7 @@
 use Rattle.std.specs.Prelude.{◌≡◌, ℕ, ◌+◌, ◌<◌, ◌≤◌, ◌⊎◌, List, [], ◌∷◌}
 use Rattle.xs_desk.specs.declared.opening.DeskError.{DeskError}
 use Rattle.xs_desk.specs.declared.opening.DeskError.TheVariants.{Lanes, Depth, Memory}
-use Rattle.xs_desk.specs.History.{LaneOf}
+use Rattle.xs_desk.specs.ServedCalls.{LaneOf}
 use Rattle.xs_desk.specs.Callers.{Caller, IsSide}
 
 -- lane k, which hasn't been used yet

@@ -2,7 +2,7 @@
 use Rattle.std.specs.declared.alloc.Global.{Global}
 use Rattle.rtrb.specs.declared.producer.Producer.{Producer}
 use Rattle.rtrb.specs.declared.consumer.Consumer.{Consumer}
-use Rattle.xs_desk.specs.History.{Ring}
+use Rattle.xs_desk.specs.ServedCalls.{Ring}
 
 module _ {T P : Type 0} where
   abbrev pub producer_ring : Producer T Global P → Ring

@@ -3,7 +3,7 @@ ghost use Rattle.std.specs.Prelude.{◌≡◌, ℕ, ◌<◌, ◌≤◌, [], List
 ghost use Rattle.std.specs.Prelude.{IsFalse, slice_get, Some, vec_capacity};
 ghost use Rattle.xs_bytes.specs.SortedMap.{empty};
 ghost use Rattle.xs_keys.specs.Headline.{RunsOn};
-ghost use Rattle.xs_desk.specs.History.{ServedCall, IsHistory, events_of, replies_of};
+ghost use Rattle.xs_desk.specs.ServedCalls.{ServedCall, AreCallsOf, events_of, replies_of};
 ghost use Rattle.xs_desk.specs.LaneEnds.{lane_of};
 ghost use Rattle.xs_desk.specs.Callers.{Caller, AreEndsOfLanes, HasEndOfLane, IsSide};
 ghost use Rattle.xs_desk.specs.Closing.{SumsUp, SumUp, AreEven, IsRefused};
@@ -97,8 +97,8 @@ fn sum_up_all(lane_ends: &mut Vec<LaneEnd>, ended: &mut Vec<Ended>, lanes: &mut 
 pub fn close(alloc: Global, keeper: Keeper, ended: Vec<Ended>) -> Result<Summary, CloseError>
     requires { AreEndsOfLanes keeper.lanes ended.items }
     ensures lanes { IfOk result (λ summary. SumUp keeper.lanes ended.items (length keeper.lanes) summary.lanes.items) }
-    ensures history { IfOk result (λ summary. (history : List ServedCall) × IsHistory history keeper
-        × RunsOn empty (events_of history) (replies_of history) summary.keyspace) }
+    ensures calls { IfOk result (λ summary. (calls : List ServedCall) × AreCallsOf calls keeper
+        × RunsOn empty (events_of calls) (replies_of calls) summary.keyspace) }
     ensures refused { IfErr result (IsRefused keeper ended.items) }
 {
     let count = keeper.lanes();

@@ -43,20 +43,20 @@ pub struct Keeper<J: Journal + Drop = NoJournal> {
 }
 
 impl<J: Journal + Drop> Model for Keeper<J> {
-    ghost use Rattle.xs_desk.specs.History.{Desk};
+    ghost use Rattle.xs_desk.specs.ServedCalls.{Desk};
 
     ghost Value = { Desk };
 
     ghost use Rattle.std.specs.Prelude.{List};
-    ghost use Rattle.xs_desk.specs.History.{ServedCall, IsHistory};
+    ghost use Rattle.xs_desk.specs.ServedCalls.{ServedCall, AreCallsOf};
     ghost use Rattle.xs_desk.specs.LaneEnds.{desk_of};
     ghost use Rattle.xs_desk.specs.Durable.{IsDurable};
 
     ghost view = { λ k. desk_of k.lane_ends.items k.keyspace k.place (J.start k.journal) };
 
-    ghost invariant = { λ k. (history : List ServedCall)
-        × IsHistory history (desk_of k.lane_ends.items k.keyspace k.place (J.start k.journal))
-        × IsDurable J.has history k.lane_ends.items (J.start k.journal) k.keyspace k.journal };
+    ghost invariant = { λ k. (calls : List ServedCall)
+        × AreCallsOf calls (desk_of k.lane_ends.items k.keyspace k.place (J.start k.journal))
+        × IsDurable J.has calls k.lane_ends.items (J.start k.journal) k.keyspace k.journal };
 }
 
 impl<J: Journal + Drop> Drop for Keeper<J> {
@@ -152,8 +152,8 @@ fn release_each(lane_ends: &mut Vec<LaneEnd>) -> u64
 
 impl<J: Journal + Drop> Keeper<J> {
     ghost use Rattle.std.specs.Prelude.{◌≡◌, ℕ, ◌+◌, ◌^◌, ◌<◌, length, List, [], slice_get, Some, MatchResult};
-    ghost use Rattle.xs_desk.specs.History.{ServedCall, IsHistory};
-    ghost use Rattle.xs_desk.specs.KeeperTurns.{HistoryGoesOn};
+    ghost use Rattle.xs_desk.specs.ServedCalls.{ServedCall, AreCallsOf};
+    ghost use Rattle.xs_desk.specs.KeeperTurns.{ExtendsCalls};
     ghost use Rattle.xs_desk.specs.LaneEnds.{desk_of};
     ghost use Rattle.xs_desk.specs.KeptRings.{KeepsRings};
     ghost use Rattle.xs_keys.specs.KeysRoom.{IsRoomOf};
@@ -166,7 +166,7 @@ impl<J: Journal + Drop> Keeper<J> {
         gone: Arc<AtomicBool>,
         journal: J,
     ) -> Keeper<J>
-        requires history { IsHistory [] (desk_of lane_ends.items keyspace 0 (J.start journal)) }
+        requires calls { AreCallsOf [] (desk_of lane_ends.items keyspace 0 (J.start journal)) }
         requires start { J.start journal ≡ keyspace }
         requires noted { J.has journal [] 0 }
         ensures { result ≡ desk_of lane_ends.items keyspace 0 (J.start journal) }
@@ -204,15 +204,15 @@ impl<J: Journal + Drop> Keeper<J> {
     /// lane that has had no call while others had many is skipped until its client gives notice of a call, or of room
     /// for an answer. A call whose answer has no room stays in its lane. It takes no memory but that of
     /// `Keyspace::apply`; if that is refused, the reply is `OOM`. Returns the number of calls that it served. All that
-    /// was served so far is one history, answered as in the model, which these calls extend.
+    /// was served so far is one run, answered as in the model, which these calls extend.
     ///
     /// # Errors
     /// `Exhausted` at the last place, 2^64 - 1, and no call is served any more. What the turn served before stays
     /// served.
     pub fn turn<C: Clock>(&mut self, clock: &mut C) -> Result<u64, KeeperError>
-        ensures history { MatchResult result
-            (λ n. HistoryGoesOn C.gives self.old clock.old n (length self.old.lanes) self.new clock.new)
-            (λ _. (n : ℕ) × HistoryGoesOn C.gives self.old clock.old n (length self.old.lanes) self.new clock.new
+        ensures calls { MatchResult result
+            (λ n. ExtendsCalls C.gives self.old clock.old n (length self.old.lanes) self.new clock.new)
+            (λ _. (n : ℕ) × ExtendsCalls C.gives self.old clock.old n (length self.old.lanes) self.new clock.new
             × (self.new.place + 1 ≡ 2 ^ 64)) }
         ensures rings { KeepsRings self.old self.new }
         ensures last { self.new.place < 2 ^ 64 }
@@ -334,13 +334,13 @@ impl<L: EventLog + Drop> Keeper<LogJournal<L>> {
 impl Keeper {
     ghost use Rattle.std.specs.Prelude.{◌≡◌, ℕ, List};
     ghost use Rattle.xs_bytes.specs.SortedMap.{empty};
-    ghost use Rattle.xs_desk.specs.History.{ServedCall, IsHistory};
+    ghost use Rattle.xs_desk.specs.ServedCalls.{ServedCall, AreCallsOf};
     ghost use Rattle.xs_desk.specs.LaneEnds.{desk_of};
 
     /// Takes the keeper apart, if no client waits for it any more.
     pub(crate) fn into_parts(self) -> (Vec<LaneEnd>, Keyspace)
         ensures parts { (place : ℕ) × (self ≡ desk_of result.0.items result.1 place empty) }
-        ensures history { (history : List ServedCall) × IsHistory history self }
+        ensures calls { (calls : List ServedCall) × AreCallsOf calls self }
     {
         let Keeper {
             lane_ends,

@@ -1,6 +1,6 @@
 //! What serves commands: a keyspace with a clock, or a desk, whose keeper serves the calls of many clients, each over a
-//! lane of its own. What a desk has done is its history (`specs/History.antt`): the calls that its keeper served, each
-//! with its answer, in the order of their places.
+//! lane of its own. What a desk has done is its calls (`specs/ServedCalls.antt`): those that its keeper served, each with
+//! its answer, in the order of their places.
 #![tactic(auto)]
 
 pub mod alone;

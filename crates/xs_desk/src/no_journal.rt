@@ -11,9 +11,9 @@ pub struct NoJournal;
 
 impl Journal for NoJournal {
     ghost use Rattle.xs_bytes.specs.SortedMap.{empty};
+    ghost use Rattle.xs_desk.specs.Noting.{HasNoLog};
 
-    // So `IsDurable` states nothing about a desk without a log: a crash leaves nothing of it.
-    ghost has = { λ _ events kept. Unit {0} };
+    ghost has = { HasNoLog };
 
     ghost start = { λ _. empty };
 

@@ -118,7 +118,7 @@ fn open_lanes(
 }
 
 /// A desk over a keyspace, whose keeper has this journal.
-#[tactic(auto, using(crate::proofs::Openings::new_history))]
+#[tactic(auto, using(crate::proofs::Openings::no_calls_of_new))]
 fn open_desk<J: Journal + Drop>(
     alloc: Global,
     count: usize,

@@ -33,7 +33,7 @@ impl SnapshotFile {
     /// A tape over an empty file.
     fn over(file: File) -> Self
         ensures sound { ⟦<SnapshotFile as Tape>⟧.broken result ≡ false }
-        ensures untold { ⟦<SnapshotFile as Tape>⟧.holds result ≡ None }
+        ensures unknown { ⟦<SnapshotFile as Tape>⟧.holds result ≡ None }
     {
         Self {
             file,

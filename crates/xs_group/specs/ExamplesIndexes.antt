@@ -7,10 +7,10 @@ use Rattle.xs_group.specs.declared.delivery.DeliveryKind.TheVariants as kind
 use Rattle.xs_group.specs.declared.reports.Selection.{Selection}
 use Rattle.xs_group.specs.Indexes.{ConsumerIndex, rows_of, consumers_of, has_among, has_pending_id, AreFree}
 use Rattle.xs_group.specs.Deliveries.{group_after_read, rows_taken_back}
-use Rattle.xs_group.specs.Listing.{owners_told, selected_rows}
+use Rattle.xs_group.specs.Listing.{reported_owners, selected_rows}
 use Rattle.xs_group.specs.Verdict.{AreSomeOf, AreAgreedBut}
 use Rattle.xs_group.specs.ExamplesRead.{pending, three, group, Is}
-use Rattle.xs_group.specs.ExamplesReport.{owner, told, everything}
+use Rattle.xs_group.specs.ExamplesReport.{owner, row, everything}
 use Rattle.xs_group.specs.ExamplesDelivered.{own}
 
 -- the moments and the ids of a, of b, and none of c
@@ -34,16 +34,16 @@ abbrev pub first : ℕ → ℕ → Selection
 first limit min_idle = record { range = everything; min_idle = min_idle; moment = 150; limit = limit }
 
 pub record Listed : Type 0 where
-  pub owners_of_rows : owners_told group.consumers group.rows ≡ owner (codes "a") 2 ∷ owner (codes "b") 1 ∷ []
+  pub owners_of_rows : reported_owners group.consumers group.rows ≡ owner (codes "a") 2 ∷ owner (codes "b") 1 ∷ []
   pub idle_for_as_long :
       selected_rows (first 9 40) None group.rows
-      ≡ told (at 1 0) (codes "a") 50 1 ∷ told (at 2 0) (codes "b") 40 2 ∷ []
-  pub the_first_of_two : selected_rows (first 1 40) None group.rows ≡ told (at 1 0) (codes "a") 50 1 ∷ []
+      ≡ row (at 1 0) (codes "a") 50 1 ∷ row (at 2 0) (codes "b") 40 2 ∷ []
+  pub the_first_of_two : selected_rows (first 1 40) None group.rows ≡ row (at 1 0) (codes "a") 50 1 ∷ []
   pub of_one_consumer :
       selected_rows (first 9 0) (Some (codes "a")) group.rows
-      ≡ told (at 1 0) (codes "a") 50 1 ∷ told (at 3 0) (codes "a") 30 1 ∷ []
+      ≡ row (at 1 0) (codes "a") 50 1 ∷ row (at 3 0) (codes "a") 30 1 ∷ []
   pub the_first_of_a_consumer :
-      selected_rows (first 1 0) (Some (codes "a")) group.rows ≡ told (at 1 0) (codes "a") 50 1 ∷ []
+      selected_rows (first 1 0) (Some (codes "a")) group.rows ≡ row (at 1 0) (codes "a") 50 1 ∷ []
 
 pub record Left : Type 0 where
   pub received_with_rows :

@@ -17,8 +17,8 @@ abbrev pub owner : List ℕ → ℕ → OwnerCount
 owner consumer count = record { consumer = consumer; count = count }
 
 -- a row at 150
-abbrev pub told : Id → List ℕ → ℕ → ℕ → PendingRow
-told id consumer idle count =
+abbrev pub row : Id → List ℕ → ℕ → ℕ → PendingRow
+row id consumer idle count =
     record { id = id; consumer = consumer; time = 150 - idle; idle = idle; count = count }
 
 abbrev pub everything : Range
@@ -67,27 +67,27 @@ pub record Reports : Type 0 where
 pub record Rows : Type 0 where
   pub all :
       pending_of everything 0 150 10 None group
-      ≡ told (at 1 0) (codes "a") 50 1 ∷ told (at 2 0) (codes "b") 40 2 ∷ told (at 3 0) (codes "a") 30 1 ∷ []
+      ≡ row (at 1 0) (codes "a") 50 1 ∷ row (at 2 0) (codes "b") 40 2 ∷ row (at 3 0) (codes "a") 30 1 ∷ []
   pub at_most_two :
-      pending_of everything 0 150 2 None group ≡ told (at 1 0) (codes "a") 50 1 ∷ told (at 2 0) (codes "b") 40 2 ∷ []
+      pending_of everything 0 150 2 None group ≡ row (at 1 0) (codes "a") 50 1 ∷ row (at 2 0) (codes "b") 40 2 ∷ []
   pub at_most_none_own : pending_of everything 0 150 0 None group ≡ []
   pub both_ends_belong :
       pending_of (between (at 2 0) (at 3 0)) 0 150 10 None group
-      ≡ told (at 2 0) (codes "b") 40 2 ∷ told (at 3 0) (codes "a") 30 1 ∷ []
-  pub between_two_ids : pending_of (between (at 1 1) (at 2 9)) 0 150 10 None group ≡ told (at 2 0) (codes "b") 40 2 ∷ []
+      ≡ row (at 2 0) (codes "b") 40 2 ∷ row (at 3 0) (codes "a") 30 1 ∷ []
+  pub between_two_ids : pending_of (between (at 1 1) (at 2 9)) 0 150 10 None group ≡ row (at 2 0) (codes "b") 40 2 ∷ []
   pub of_a_consumer :
       pending_of everything 0 150 10 (Some (codes "a")) group
-      ≡ told (at 1 0) (codes "a") 50 1 ∷ told (at 3 0) (codes "a") 30 1 ∷ []
+      ≡ row (at 1 0) (codes "a") 50 1 ∷ row (at 3 0) (codes "a") 30 1 ∷ []
   pub the_first_of_a_consumer :
-      pending_of (between (at 2 0) greatest_id) 0 150 1 (Some (codes "a")) group ≡ told (at 3 0) (codes "a") 30 1 ∷ []
+      pending_of (between (at 2 0) greatest_id) 0 150 1 (Some (codes "a")) group ≡ row (at 3 0) (codes "a") 30 1 ∷ []
   pub of_none : pending_of everything 0 150 10 (Some (codes "z")) group ≡ []
   pub idle_for_as_long :
       pending_of everything 40 150 10 None group
-      ≡ told (at 1 0) (codes "a") 50 1 ∷ told (at 2 0) (codes "b") 40 2 ∷ []
-  pub idle_for_longer : pending_of everything 41 150 10 None group ≡ told (at 1 0) (codes "a") 50 1 ∷ []
-  pub first_that_is_idle : pending_of everything 40 150 1 None taken_over ≡ told (at 2 0) (codes "b") 40 1 ∷ []
+      ≡ row (at 1 0) (codes "a") 50 1 ∷ row (at 2 0) (codes "b") 40 2 ∷ []
+  pub idle_for_longer : pending_of everything 41 150 10 None group ≡ row (at 1 0) (codes "a") 50 1 ∷ []
+  pub first_that_is_idle : pending_of everything 40 150 1 None taken_over ≡ row (at 2 0) (codes "b") 40 1 ∷ []
   pub first_of_a_consumer_that_is_idle :
-      pending_of everything 40 150 1 (Some (codes "a")) taken_over ≡ told (at 4 0) (codes "a") 50 1 ∷ []
+      pending_of everything 40 150 1 (Some (codes "a")) taken_over ≡ row (at 4 0) (codes "a") 50 1 ∷ []
   pub idle_in_a_range : pending_of (between (at 2 0) (at 3 0)) 40 150 10 (Some (codes "a")) group ≡ []
   pub moment_before_its_time_own :
       pending_of everything 0 90 1 None group

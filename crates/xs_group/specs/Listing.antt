@@ -8,8 +8,8 @@ use Rattle.xs_group.specs.GroupState.{Rows, Consumers}
 use Rattle.xs_group.specs.Report.{counts_of_owners, pending_row, is_selected}
 
 -- the consumers that have rows
-abbrev pub owners_told : Consumers → Rows → List OwnerCount
-owners_told consumers rows =
+abbrev pub reported_owners : Consumers → Rows → List OwnerCount
+reported_owners consumers rows =
     filter (λ owner. nat_lt 0 owner.count) (counts_of_owners (keys consumers) rows.entries)
 
 -- the first of the rows that are asked for, up to the limit

@@ -3,7 +3,7 @@ ghost use Rattle.std.specs.Prelude.{IfOk, List, ℕ, None, Some, false, ◌≡�
 ghost use Rattle.std.specs.BTreeSet.{contains};
 ghost use Rattle.xs_group.specs.GroupState.{RowState};
 ghost use Rattle.xs_group.specs.Indexes.{IsAgreed, indexed_row, is_owner, consumers_of, rows_of};
-ghost use Rattle.xs_group.specs.Listing.{owners_told, selected_rows};
+ghost use Rattle.xs_group.specs.Listing.{reported_owners, selected_rows};
 ghost use Rattle.xs_group.specs.Report.{first_id, last_id, pending_row, consumer_reports};
 ghost use Rattle.xs_stream.specs.declared.id.Id.{Id};
 ghost use Rattle.xs_stream.specs.Id.{id_cmp, is_below, zero_id};
@@ -106,7 +106,7 @@ pub(crate) fn owner_counts(
     owners: &ConsumerIndex,
 ) -> Result<Vec<OwnerCount>, AllocError>
     ensures { (rows : List (Id × RowState)) → IsAgreed rows owners.now.entries → IfOk result (λ counts. counts.items
-        ≡ owners_told (consumers_of owners.now.entries) (rows_of rows)) }
+        ≡ reported_owners (consumers_of owners.now.entries) (rows_of rows)) }
 {
     let mut counts = Vec::with_capacity(alloc, owners.len())?;
     for (name, owner) in owners.iter() {
@@ -148,7 +148,12 @@ pub(crate) fn consumers_of(
 }
 
 /// The report of a row.
-fn told(alloc: Global, now: Moment, id: Id, entry: &PendingEntry) -> Result<PendingRow, AllocError>
+fn report_row(
+    alloc: Global,
+    now: Moment,
+    id: Id,
+    entry: &PendingEntry,
+) -> Result<PendingRow, AllocError>
     ensures { IfOk result (λ row. row ≡ pending_row now (id, entry.now)) }
 {
     let touch = entry.touch();
@@ -184,7 +189,7 @@ pub(crate) fn rows_within(
         if entry.idle(selection.moment) < selection.min_idle {
             continue;
         }
-        found.push(told(alloc, selection.moment, *id, entry)?)?;
+        found.push(report_row(alloc, selection.moment, *id, entry)?)?;
     }
     Ok(found)
 }
@@ -214,7 +219,7 @@ pub(crate) fn rows_of_ids(
         if entry.idle(selection.moment) < selection.min_idle {
             continue;
         }
-        found.push(told(alloc, selection.moment, *id, entry)?)?;
+        found.push(report_row(alloc, selection.moment, *id, entry)?)?;
     }
     Ok(found)
 }

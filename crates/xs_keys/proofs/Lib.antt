@@ -32,7 +32,7 @@ pub mod Owners
 pub mod PresentEntries
 pub mod ReadSteps
 pub mod Refusals
-pub mod RowsTold
+pub mod RowsReported
 pub mod Runs
 pub mod ScanParts
 pub mod IdsAtEvents

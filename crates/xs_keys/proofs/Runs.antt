@@ -5,7 +5,7 @@ use Rattle.xs_keys.specs.Event.{Event, History}
 use Rattle.xs_command.specs.WellFormed.{IsWellFormed}
 use Rattle.xs_keys.specs.Terms.{Reply, Command}
 use Rattle.xs_keys.specs.Content.{Content, IsContent}
-use Rattle.xs_keys.specs.RepliesTell.{IsTold}
+use Rattle.xs_keys.specs.RepliesTell.{IsReported}
 use Rattle.xs_keys.specs.EachReply.{JoinsOrIsLeftOut, AreReplied}
 use Rattle.xs_keys.specs.Headline.{AreWellFormed, AtEachEvent, LivesAreApart, Headline, RunsOn}
 use Rattle.xs_keys.specs.EachDelivery.{DeliversNew}
@@ -20,7 +20,7 @@ use Rattle.xs_keys.proofs.TimesOfRows.{is-last-touched}
 use Rattle.xs_keys.proofs.Owners.{owned-until-settled, changes-by-claims, owner-row, row-found, of_row}
 use Rattle.xs_keys.proofs.Streams.{ascends-added}
 use Rattle.xs_keys.proofs.Lives.{goes-on}
-use Rattle.xs_keys.proofs.Tellings.{is-told}
+use Rattle.xs_keys.proofs.Tellings.{is-reported}
 use Rattle.xs_keys.proofs.Contents.{content-step}
 use Rattle.xs_keys.proofs.IdsAtEvents.{sees-of}
 use Rattle.xs_keys.proofs.JobPlaces.{has-one-place}
@@ -58,7 +58,7 @@ step-follows past old new now command answer formed is (inl applied) = (
       content = old;
       left_by = is;
       answer_is = applied.answer_is;
-      told = subst (λ r. IsTold past now command r) (sym applied.answer_is) (is-told past old now command is formed);
+      reported = subst (λ r. IsReported past now command r) (sym applied.answer_is) (is-reported past old now command is formed);
       unchanged = refused-unchanged old now command formed;
     },
     refl,

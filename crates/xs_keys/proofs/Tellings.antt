@@ -42,7 +42,7 @@ use Rattle.xs_keys.specs.ReplyParts.{taken_reply, scan_reply}
 use Rattle.xs_keys.specs.Telling.{TellsEntry, TellsEntryOrNull, TellsEach, AreFirst}
 use Rattle.xs_keys.specs.Life.{added_at}
 use Rattle.xs_keys.specs.RepliesTell.{TellsAddition, TellsFewer, present_count, pending_count, scan_at, TellsTaken}
-use Rattle.xs_keys.specs.RepliesTell.{TellsRows, IsTold}
+use Rattle.xs_keys.specs.RepliesTell.{TellsRows, IsReported}
 use Rattle.xs_keys.specs.ReadsTell.{TellsNew, IsOwnPast, TellsRead, TellsReads}
 use Rattle.xs_keys.proofs.Truths.{first_of, second_of}
 use Rattle.xs_keys.proofs.IdLists.{has_id-where, ascends-where}
@@ -57,7 +57,7 @@ use Rattle.xs_keys.proofs.Owners.{owner-row, of_row, held-delivered}
 use Rattle.xs_keys.proofs.IdsAtEvents.{limited-has}
 use Rattle.xs_keys.proofs.JobCounts.{owned-among, ascends-rows}
 use Rattle.xs_keys.proofs.Assigning.{assigned-claim, assigned-scan}
-use Rattle.xs_keys.proofs.RowsTold.{rows-told}
+use Rattle.xs_keys.proofs.RowsReported.{rows-reported}
 use Rattle.xs_keys.proofs.FirstIds.{limited-first, first-as}
 use Rattle.xs_keys.proofs.AskSteps.{said-of}
 
@@ -198,19 +198,19 @@ missing c past name group is gone = by (get c name) (key_life past name) (is nam
   by (Some key) None holds = absurd holds
 
 -- what XCLAIM reports
-told-claim : (c : Content) (past : History) (now : ℕ) (name group consumer : List ℕ) (rule : ClaimRule) (ids : List Id) (t : IsThere c past name group)
+reported-claim : (c : Content) (past : History) (now : ℕ) (name group consumer : List ℕ) (rule : ClaimRule) (ids : List Id) (t : IsThere c past name group)
     → TakenIs rule.just_id (added_at past name) (scan_at past now name group (claim consumer rule ids)).claim.take
     (taken_reply rule.just_id t.key.stream.entries (claim_by_ids t.state.rows.entries (ids_of t.key.stream.entries) now rule ids).take)
-told-claim c past now name group consumer rule ids t =
+reported-claim c past now name group consumer rule ids t =
     rw (t.changes_are, t.life_is, t.holds.rows_are, t.stream_is)
     (tells-taken rule.just_id t.changes (claim_by_ids (rows t.life.start t.life.events) (ids_of (present_entries t.changes)) now rule ids).take
     (taken-among (rows t.life.start t.life.events) (ids_of (present_entries t.changes)) now rule (without_repeats ids)))
 
 -- what XAUTOCLAIM reports
-told-scan : (c : Content) (past : History) (now : ℕ) (name group consumer : List ℕ) (rule : ClaimRule) (start : Id) (limit : ℕ) (t : IsThere c past name group)
+reported-scan : (c : Content) (past : History) (now : ℕ) (name group consumer : List ℕ) (rule : ClaimRule) (start : Id) (limit : ℕ) (t : IsThere c past name group)
     → TakenIs rule.just_id (added_at past name) (scan_at past now name group (auto_claim consumer rule start limit)).claim.take
     (taken_reply rule.just_id t.key.stream.entries (scan_of t.state.rows.entries (ids_of t.key.stream.entries) now rule start limit).claim.take)
-told-scan c past now name group consumer rule start limit t =
+reported-scan c past now name group consumer rule start limit t =
     let es = rows t.life.start t.life.events in
     let present = ids_of (present_entries t.changes) in
     rw (t.changes_are, t.life_is, t.holds.rows_are, t.stream_is)
@@ -274,11 +274,11 @@ module _ (past : History) (key group : List ℕ) (life : GroupLife) (is : group_
       past_from = filter (λ y. is_below from y) (ids_of_consumer consumer (rows life.start life.events))
 
 -- one of the reads that are left: its key and its group are as they were before the event
-told-read : (c next : Content) (past : History) (read : ReadGroupCommand) (one : ReadOne) → IsThere c past one.key read.group → get next one.key ≡ get c one.key
+reported-read : (c next : Content) (past : History) (read : ReadGroupCommand) (one : ReadOne) → IsThere c past one.key read.group → get next one.key ≡ get c one.key
     → has_all_groups (group_life past) (ReadGroup read) ≡ true → (is_new one.from ≡ true → reads_new_entries (ReadGroup read) one.key ≡ true)
     → TellsRead past read one.key one.from
     (option_map_or (parts_of_read read one.key one.from (entries_in (get next one.key))) (group_in (get next one.key) read.group) [])
-told-read c next past read one t same act asks = by one.from asks where
+reported-read c next past read one t same act asks = by one.from asks where
   by : (from : ReadFrom) → (is_new from ≡ true → reads_new_entries (ReadGroup read) one.key ≡ true)
       → TellsRead past read one.key from (option_map_or (parts_of_read read one.key from (entries_in (get next one.key))) (group_in (get next one.key) read.group) [])
   by New new =
@@ -297,21 +297,21 @@ told-read c next past read one t same act asks = by one.from asks where
       )
 
 -- the reads that are left
-told-reads : (c : Content) (past : History) (now : ℕ) (read : ReadGroupCommand) → IsContent c past → has_all_groups (group_life past) (ReadGroup read) ≡ true
+reported-reads : (c : Content) (past : History) (now : ℕ) (read : ReadGroupCommand) → IsContent c past → has_all_groups (group_life past) (ReadGroup read) ≡ true
     → (reads : List ReadOne) (next : Content) → IsDistinct bytes_eq (keys_of reads)
     → list_all (λ one. is_some (group_life past one.key read.group)) reads ≡ true
     → ((key : List ℕ) → list_any (λ one. is_same_name key one.key) reads ≡ true → get next key ≡ get c key)
     → ((key : List ℕ) → list_any (λ one. is_same_name key one.key && is_new one.from) reads ≡ true → reads_new_entries (ReadGroup read) key ≡ true)
     → TellsReads past read reads (parts next now read reads)
 unfolding IsDistinct
-told-reads c past now read is act [] next distinct open_all same asks = refl
-told-reads c past now read is act (one ∷ more) next distinct open_all same asks = (
+reported-reads c past now read is act [] next distinct open_all same asks = refl
+reported-reads c past now read is act (one ∷ more) next distinct open_all same asks = (
   _,
   _,
   refl,
-  told-read c next past read one (there c past one.key read.group is (first_of (is_some (group_life past one.key read.group)) (list_all (λ o. is_some (group_life past o.key read.group)) more) open_all))
+  reported-read c next past read one (there c past one.key read.group is (first_of (is_some (group_life past one.key read.group)) (list_all (λ o. is_some (group_life past o.key read.group)) more) open_all))
       (same one.key (rw (is_same_name-refl one.key) refl)) act (λ new. asks one.key (rw (is_same_name-refl one.key, new) refl)),
-  told-reads c past now read is act more (after_ask next now one.key read.group (ask_of_read read one.from)) distinct.1
+  reported-reads c past now read is act more (after_ask next now one.key read.group (ask_of_read read one.from)) distinct.1
       (second_of (is_some (group_life past one.key read.group)) (list_all (λ o. is_some (group_life past o.key read.group)) more) open_all)
       (λ key among. asked-elsewhere next now one.key read.group (ask_of_read read one.from) key (others key more distinct.0 among)
       ∙ same key (or_right (is_same_name key one.key) (list_any (λ o. is_same_name key o.key) more) among))
@@ -326,12 +326,12 @@ told-reads c past now read is act (one ∷ more) next distinct open_all same ask
 
 -- ---- additions
 
-told-addition : (given : List (Id × List Field)) (fields : List Field) (id : Result Id AddError) → TellsAddition given fields (assigned_reply id) (given ++ entry_of id fields)
-told-addition given fields (Ok id) = inl (id, refl, refl)
-told-addition given fields (Err refusal) = inr (inl refl, append-nil given)
+reported-addition : (given : List (Id × List Field)) (fields : List Field) (id : Result Id AddError) → TellsAddition given fields (assigned_reply id) (given ++ entry_of id fields)
+reported-addition given fields (Ok id) = inl (id, refl, refl)
+reported-addition given fields (Err refusal) = inr (inl refl, append-nil given)
 
-told-add : (past : History) (c : Content) (now : ℕ) (add : AddCommand) → IsContent c past → IsTold past now (Add add) (reply c now (Add add))
-told-add past c now add is =
+reported-add : (past : History) (c : Content) (now : ℕ) (add : AddCommand) → IsContent c past → IsReported past now (Add add) (reply c now (Add add))
+reported-add past c now add is =
     subst (λ t. TellsAddition (option_map_or added_in (key_life past add.key) []) add.fields (reply c now (Add add))
     (option_map_or added_in (cond t (option_map (λ changes. add_entry now add.id add.fields add.trim ∷ changes) (life_or_new add.make (key_life past add.key))) (key_life past add.key)) []))
     (sym (is_same_name-refl add.key)) (by add.make (get c add.key) (key_life past add.key) (is add.key))
@@ -339,13 +339,13 @@ told-add past c now add is =
     by : (make : Bool) (key : Option KeyState) (life : Option (List StreamEvent)) → KeyHolds key life (λ group. group_life past add.key group)
         → TellsAddition (option_map_or added_in life []) add.fields (option_map_or (λ k. assigned_reply (id_of_addition now k.stream.top add.id)) (key_or_new make key) NullBulk)
         (option_map_or added_in (option_map (λ changes. add_entry now add.id add.fields add.trim ∷ changes) (life_or_new make life)) [])
-    by true None None h = told-addition [] add.fields (id_of_addition now zero_id add.id)
+    by true None None h = reported-addition [] add.fields (id_of_addition now zero_id add.id)
     by false None None h = inr (inr refl, refl)
     by make None (Some changes) h = absurd h
     by make (Some key) None h = absurd h
     by make (Some key) (Some changes) h =
         subst (λ top. TellsAddition (added_in changes) add.fields (assigned_reply (id_of_addition now top add.id)) (added_in changes ++ entry_of (id_of_addition now (top_of (added_in changes)) add.id) add.fields))
-        (sym (ap (λ s. s.top) h.0)) (told-addition (added_in changes) add.fields (id_of_addition now (top_of (added_in changes)) add.id))
+        (sym (ap (λ s. s.top) h.0)) (reported-addition (added_in changes) add.fields (id_of_addition now (top_of (added_in changes)) add.id))
 
 -- ---- numbers
 
@@ -357,10 +357,10 @@ ids-length : (es : List (Id × List Field)) → length (ids_of es) ≡ length es
 ids-length es = length-map es (λ e. e.0)
 
 -- a change of a stream that only removes
-told-removal : (past : History) (c : Content) (name : List ℕ) (change : StreamEvent) → IsContent c past
+reported-removal : (past : History) (c : Content) (name : List ℕ) (change : StreamEvent) → IsContent c past
     → ((kept : StreamState) → length (stream_after change kept).entries ≤ length kept.entries)
     → removed_count change (get c name) + length (present_in (cond (is_same_name name name) (option_map (λ changes. change ∷ changes) (key_life past name)) (key_life past name))) ≡ present_count name past
-told-removal past c name change is fewer =
+reported-removal past c name change is fewer =
     subst (λ t. removed_count change (get c name) + length (present_in (cond t (option_map (λ changes. change ∷ changes) (key_life past name)) (key_life past name))) ≡ present_count name past)
     (sym (is_same_name-refl name)) (by (get c name) (key_life past name) (is name))
   where
@@ -376,8 +376,8 @@ told-removal past c name change is fewer =
         ap (λ n. length key.stream.entries - length (stream_after change key.stream).entries + n) (sym after)
         ∙ tells-fewer (length key.stream.entries) (length (stream_after change key.stream).entries) (fewer key.stream) ∙ before
 
-told-length : (past : History) (c : Content) (name : List ℕ) → IsContent c past → Int (length (entries_in (get c name))) ≡ Int (present_count name past)
-told-length past c name is = ap Int (by (get c name) (key_life past name) (is name)) where
+reported-length : (past : History) (c : Content) (name : List ℕ) → IsContent c past → Int (length (entries_in (get c name))) ≡ Int (present_count name past)
+reported-length past c name is = ap Int (by (get c name) (key_life past name) (is name)) where
   by : (key : Option KeyState) (life : Option (List StreamEvent)) → KeyHolds key life (λ group. group_life past name group) → length (entries_in key) ≡ length (present_in life)
   by None None holds = refl
   by None (Some changes) holds = absurd holds
@@ -385,9 +385,9 @@ told-length past c name is = ap Int (by (get c name) (key_life past name) (is na
   by (Some key) (Some changes) holds = ap (λ (s : StreamState). length s.entries) holds.0 ∙ sym (ids-length (present_entries changes))
 
 -- the number of entries that an acknowledgement settles
-told-ack : (past : History) (c : Content) (now : ℕ) (name group : List ℕ) (ids : List Id) → IsContent c past
+reported-ack : (past : History) (c : Content) (now : ℕ) (name group : List ℕ) (ids : List Id) → IsContent c past
     → TellsFewer (pending_count name group) past (now, Ack name group ids) (reply c now (Ack name group ids))
-told-ack past c now name group ids is = (_, refl, by (is_some (group_life past name group)) refl) where
+reported-ack past c now name group ids is = (_, refl, by (is_some (group_life past name group)) refl) where
   gone : Option GroupState → ℕ
   gone group = option_map_or (λ g. length g.rows.entries - length (group_after_ack ids g).rows.entries) group 0
 
@@ -419,19 +419,19 @@ told-ack past c now name group ids is = (_, refl, by (is_some (group_life past n
 
 -- ---- every command
 
-pub is-told : (past : History) (c : Content) (now : ℕ) (command : Command) → IsContent c past → IsWellFormed command → IsTold past now command (reply c now command)
-is-told past c now (ReadGroup read) is formed = (
+pub is-reported : (past : History) (c : Content) (now : ℕ) (command : Command) → IsContent c past → IsWellFormed command → IsReported past now command (reply c now command)
+is-reported past c now (ReadGroup read) is formed = (
   λ act. (
     parts c now read read.reads,
     ap (λ b. cond b (array_or_null (parts c now read read.reads)) (Error NoGroup)) (serves-known read.reads c past read.group is ∙ act),
-    told-reads c past now read is act read.reads c formed.1 act (λ key among. refl) (λ key among. among),
+    reported-reads c past now read is act read.reads c formed.1 act (λ key among. refl) (λ key among. among),
   ),
   λ gone. ap (λ b. cond b (array_or_null (parts c now read read.reads)) (Error NoGroup)) (serves-known read.reads c past read.group is ∙ gone),
 )
-is-told past c now (Claim command) is formed = (
+is-reported past c now (Claim command) is formed = (
   λ is_open.
       let t = there c past command.key command.group is is_open in
-      let told = told-claim c past now command.key command.group command.consumer command.rule command.ids t in (
+      let told = reported-claim c past now command.key command.group command.consumer command.rule command.ids t in (
         told.0,
         said-of c command.key command.group t.key t.state t.key_is t.state_is
             (λ entries g. taken_reply command.rule.just_id entries (claim_by_ids g.rows.entries (ids_of entries) now command.rule command.ids).take) ∙ told.1,
@@ -441,11 +441,11 @@ is-told past c now (Claim command) is formed = (
       ),
   λ gone. rw (missing c past command.key command.group is gone) refl,
 )
-is-told past c now (AutoClaim command) is formed = (
+is-reported past c now (AutoClaim command) is formed = (
   λ is_open.
       let t = there c past command.key command.group is is_open in
       let found = scan_of t.state.rows.entries (ids_of t.key.stream.entries) now command.rule command.start command.limit in
-      let told = told-scan c past now command.key command.group command.consumer command.rule command.start command.limit t in (
+      let told = reported-scan c past now command.key command.group command.consumer command.rule command.start command.limit t in (
         told.0,
         said-of c command.key command.group t.key t.state t.key_is t.state_is
             (λ entries g. scan_reply command.rule.just_id entries (scan_of g.rows.entries (ids_of entries) now command.rule command.start command.limit))
@@ -458,20 +458,20 @@ is-told past c now (AutoClaim command) is formed = (
       ),
   λ gone. rw (missing c past command.key command.group is gone) refl,
 )
-is-told past c now (Ping message) is formed = tt
-is-told past c now Quit is formed = tt
-is-told past c now (Add add) is formed = told-add past c now add is
-is-told past c now (Delete key ids) is formed = (_, refl, told-removal past c key (delete_entries ids) is (λ kept. length-filter-le (λ e. not (has_id ids e.0)) kept.entries))
-is-told past c now (TrimTo key trim) is formed =
-    (_, refl, told-removal past c key (trim_entries trim) is (λ kept. length-filter-le (λ e. not (is_trimmed trim (ids_of kept.entries) e.0)) kept.entries))
-is-told past c now (Len key) is formed = told-length past c key is
-is-told past c now (Scan scan) is formed = tt
-is-told past c now (GroupCreate create) is formed = tt
-is-told past c now (GroupDestroy key group) is formed = tt
-is-told past c now (ConsumerCreate key group consumer) is formed = tt
-is-told past c now (ConsumerDelete key group consumer) is formed = tt
-is-told past c now (Ack key group ids) is formed = told-ack past c now key group ids is
-is-told past c now (Pending key group) is formed = (
+is-reported past c now (Ping message) is formed = tt
+is-reported past c now Quit is formed = tt
+is-reported past c now (Add add) is formed = reported-add past c now add is
+is-reported past c now (Delete key ids) is formed = (_, refl, reported-removal past c key (delete_entries ids) is (λ kept. length-filter-le (λ e. not (has_id ids e.0)) kept.entries))
+is-reported past c now (TrimTo key trim) is formed =
+    (_, refl, reported-removal past c key (trim_entries trim) is (λ kept. length-filter-le (λ e. not (is_trimmed trim (ids_of kept.entries) e.0)) kept.entries))
+is-reported past c now (Len key) is formed = reported-length past c key is
+is-reported past c now (Scan scan) is formed = tt
+is-reported past c now (GroupCreate create) is formed = tt
+is-reported past c now (GroupDestroy key group) is formed = tt
+is-reported past c now (ConsumerCreate key group consumer) is formed = tt
+is-reported past c now (ConsumerDelete key group consumer) is formed = tt
+is-reported past c now (Ack key group ids) is formed = reported-ack past c now key group ids is
+is-reported past c now (Pending key group) is formed = (
   λ is_open.
       let t = there c past key group is is_open in
       let told = summary_of t.state in
@@ -483,13 +483,13 @@ is-told past c now (Pending key group) is formed = (
       ),
   λ gone. rw (missing c past key group is gone) refl,
 )
-is-told past c now (PendingRows after_ask) is formed = (
+is-reported past c now (PendingRows after_ask) is formed = (
   λ is_open life life_is.
       let t = there c past after_ask.key after_ask.group is is_open in
       rw (t.key_is, t.state_is, t.holds.rows_are) (subst (λ (l : GroupLife). TellsRows after_ask now life (array (map row_reply (take after_ask.limit (map (pending_row now) (filter (is_selected after_ask.range after_ask.min_idle now after_ask.consumer) (rows l.start l.events)))))))
       (ap (λ (l : Option GroupLife). option_map_or (λ a. a) l life) (sym life_is ∙ t.life_is))
-      (rows-told after_ask now life (ascends-rows life.start life.events (present-in-life past after_ask.key after_ask.group life life_is)))),
+      (rows-reported after_ask now life (ascends-rows life.start life.events (present-in-life past after_ask.key after_ask.group life life_is)))),
   λ gone. rw (missing c past after_ask.key after_ask.group is gone) refl,
 )
-is-told past c now (DropKeys keys) is formed = tt
-is-told past c now (Inspect inspection) is formed = (c, is, refl)
+is-reported past c now (DropKeys keys) is formed = tt
+is-reported past c now (Inspect inspection) is formed = (c, is, refl)

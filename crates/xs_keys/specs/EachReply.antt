@@ -5,7 +5,7 @@ use Rattle.xs_command.specs.WellFormed.{IsWellFormed}
 use Rattle.xs_keys.specs.Content.{Content, IsContent}
 use Rattle.xs_keys.specs.Reply.{reply}
 use Rattle.xs_keys.specs.Step.{takes_memory, is_error, IsUnchangedIfRefused}
-use Rattle.xs_keys.specs.RepliesTell.{IsTold}
+use Rattle.xs_keys.specs.RepliesTell.{IsReported}
 use Rattle.xs_keys.specs.Event.{Event, History, event_moment, event_command}
 
 -- an event of the history: its command is well formed, and its reply is the model's, at the content after the events
@@ -15,7 +15,7 @@ pub record IsReplied (past : History) (now : ℕ) (command : Command) (answer : 
   pub content : Content
   pub left_by : IsContent content past
   pub answer_is : answer ≡ reply content now command
-  pub told : IsTold past now command answer
+  pub reported : IsReported past now command answer
   pub unchanged : IsUnchangedIfRefused content now command
 
 -- the command was answered OOM: it takes memory, and the model refuses nothing
@@ -32,8 +32,8 @@ JoinsOrIsLeftOut past now command answer next =
     (IsReplied past now command answer × (next ≡ (now, command) ∷ past))
     ⊎ (IsLeftOut past now command answer × (next ≡ past))
 
--- after a past, each of these events in turn was replied to by the answer at its place, and the last history has those
--- events that joined it
+-- after a past, each of these events, in order, was replied to by the answer at its place, and the last history has
+-- those events that joined it
 abbrev pub AreReplied : History → List Event → List Reply → History → Type 0
 AreReplied past [] [] last = last ≡ past
 AreReplied past (e ∷ run) (answer ∷ answers) last =

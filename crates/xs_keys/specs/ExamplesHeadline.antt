@@ -100,4 +100,4 @@ pub record Endings : Type 0 where
       Creates creation (at 3 0) (insert empty (codes "g") (new_group (at 2 0))) (Ok (Error Busy))
       (insert empty (codes "g") (new_group (at 2 0)))
   pub not_created_without_memory : (error : AllocError) → Creates creation (at 3 0) empty (Err error) empty
-  pub memory_told_own : fault_of_addition add_error.Memory ≡ Memory
+  pub memory_reported : fault_of_addition add_error.Memory ≡ Memory

@@ -209,7 +209,7 @@ abbrev pub any_idle_time : ClaimRule
 any_idle_time = record { min_idle = 0; when = time.Now; retry = None; just_id = false }
 
 -- what replies report
-pub record Told : Type 0 where
+pub record Reported : Type 0 where
   pub all_that_was_given :
       ids_of (added_at (events 5 (three_and (codes "XDEL s 2-0" ∷ []))) (codes "s")) ≡ at 1 0 ∷ at 2 0 ∷ at 3 0 ∷ []
   pub nothing_of_another_key : added_at (events 5 (three_and [])) (codes "t") ≡ []

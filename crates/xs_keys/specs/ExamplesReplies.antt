@@ -6,14 +6,14 @@ use Rattle.xs_command.specs.Read.{command_of_words}
 use Rattle.xs_command.specs.Examples.{line}
 use Rattle.xs_keys.specs.Terms.{Reply, Error, Int, NoGroup, SmallId, NullArray, NullBulk}
 use Rattle.xs_keys.specs.ReplyParts.{array}
-use Rattle.xs_keys.specs.RepliesTell.{IsTold}
+use Rattle.xs_keys.specs.RepliesTell.{IsReported}
 use Rattle.xs_keys.specs.PlayedLines.{name, id, entry, stream}
 use Rattle.xs_keys.specs.ExamplesHistory.{event, events, group_and}
 
 -- the reply to the event of some words reports what was delivered or taken, after those lines
 abbrev pub tells : History → List (List ℕ) → Reply → Type 0
 tells [] lines answer = ⊥
-tells (e ∷ es) lines answer = IsTold (events 5 lines) (event_moment e) (event_command e) answer
+tells (e ∷ es) lines answer = IsReported (events 5 lines) (event_moment e) (event_command e) answer
 
 abbrev pub Tells : List (List ℕ) → List ℕ → Reply → Type 0
 Tells lines words answer = tells (event 9 (command_of_words (line words))) lines answer
@@ -30,7 +30,7 @@ two_groups = group_and (codes "XADD t 7-0 f v" ∷ codes "XGROUP CREATE t g 0" �
 abbrev pub read_by_a : List (List ℕ)
 read_by_a = group_and (codes "XREADGROUP GROUP g a STREAMS s >" ∷ [])
 
-pub record ToldAdditions : Type 0 where
+pub record ReportedAdditions : Type 0 where
   pub added : Tells (group_and []) (codes "XADD s 9-0 f v") (id 9 0)
   pub added_and_trimmed : Tells (group_and []) (codes "XADD s MAXLEN 0 9-0 f v") (id 9 0)
   pub makes_the_key : Tells (group_and []) (codes "XADD t 9-0 f v") (id 9 0)
@@ -41,7 +41,7 @@ pub record ToldAdditions : Type 0 where
 abbrev pub with_a_deleted_one : List (List ℕ)
 with_a_deleted_one = group_and (codes "XREADGROUP GROUP g a STREAMS s >" ∷ codes "XDEL s 2" ∷ [])
 
-pub record ToldReads : Type 0 where
+pub record ReportedReads : Type 0 where
   pub new :
       Tells (group_and []) (codes "XREADGROUP GROUP g a STREAMS s >")
       (array (stream (codes "s") (second ∷ entry 3 0 ∷ []) ∷ []))
@@ -67,7 +67,7 @@ pub record ToldReads : Type 0 where
   pub refused : Tells read_by_a (codes "XREADGROUP GROUP h b STREAMS s >") (Error NoGroup)
   pub not_nothing_without_the_group : Tells read_by_a (codes "XREADGROUP GROUP h b STREAMS s >") NullArray → ⊥
 
-pub record ToldClaims : Type 0 where
+pub record ReportedClaims : Type 0 where
   pub claimed : Tells read_by_a (codes "XCLAIM s g b 0 2") (array (second ∷ []))
   pub claimed_ids : Tells read_by_a (codes "XCLAIM s g b 0 2 JUSTID") (array (id 2 0 ∷ []))
   pub not_none_of_them : Tells read_by_a (codes "XCLAIM s g b 0 2") (array []) → ⊥
@@ -83,7 +83,7 @@ pub record ToldClaims : Type 0 where
   pub not_nothing_scanned : Tells read_by_a (codes "XAUTOCLAIM s g b 0 2-1") NullArray → ⊥
   pub no_scan : Tells read_by_a (codes "XAUTOCLAIM s h b 0 0") (Error NoGroup)
 
-pub record ToldNumbers : Type 0 where
+pub record ReportedNumbers : Type 0 where
   pub acknowledged : Tells read_by_a (codes "XACK s g 2 3 7") (Int 2)
   pub not_all_that_were_named : Tells read_by_a (codes "XACK s g 2 3 7") (Int 3) → ⊥
   pub acknowledged_in_no_group : Tells read_by_a (codes "XACK s h 2") (Int 0)

@@ -100,30 +100,30 @@ TellsContent past now inspection answer =
 
 -- the reply to a command, after this past, reports what it did; for ranges, groups, DEL, PING and QUIT nothing beyond
 -- the model's reply is required
-abbrev pub IsTold : History → ℕ → Command → Reply → Type 0
-IsTold past now (Add add) answer =
+abbrev pub IsReported : History → ℕ → Command → Reply → Type 0
+IsReported past now (Add add) answer =
     TellsAddition (added_at past add.key) add.fields answer (added_at ((now, Add add) ∷ past) add.key)
-IsTold past now (Delete key ids) answer = TellsFewer (present_count key) past (now, Delete key ids) answer
-IsTold past now (TrimTo key trim) answer = TellsFewer (present_count key) past (now, TrimTo key trim) answer
-IsTold past now (Len key) answer = answer ≡ Int (present_count key past)
-IsTold past now (ReadGroup read) answer =
+IsReported past now (Delete key ids) answer = TellsFewer (present_count key) past (now, Delete key ids) answer
+IsReported past now (TrimTo key trim) answer = TellsFewer (present_count key) past (now, TrimTo key trim) answer
+IsReported past now (Len key) answer = answer ≡ Int (present_count key past)
+IsReported past now (ReadGroup read) answer =
     IfThere (has_all_groups (group_life past) (ReadGroup read)) answer
     ((told : List Reply) × (answer ≡ array_or_null told) × TellsReads past read read.reads told)
-IsTold past now (Ack key group ids) answer = TellsFewer (pending_count key group) past (now, Ack key group ids) answer
-IsTold past now (Pending key group) answer =
+IsReported past now (Ack key group ids) answer = TellsFewer (pending_count key group) past (now, Ack key group ids) answer
+IsReported past now (Pending key group) answer =
     IfThere (is_some (group_life past key group)) answer
     ((rest : List Reply) × (answer ≡ array (Int (pending_count key group past) ∷ rest)))
-IsTold past now (PendingRows asked) answer =
+IsReported past now (PendingRows asked) answer =
     IfThere (is_some (group_life past asked.key asked.group)) answer
     ((life : GroupLife) → group_life past asked.key asked.group ≡ Some life → TellsRows asked now life answer)
-IsTold past now (Claim c) answer =
+IsReported past now (Claim c) answer =
     let found = scan_at past now c.key c.group (claim c.consumer c.rule c.ids) in
     IfThere (is_some (group_life past c.key c.group)) answer
     ((told : List Reply) × (answer ≡ array told)
     × TellsTaken c.rule.just_id (added_at past c.key) found.claim.take told
     × IsAssigned c.consumer found.claim (group_life past c.key c.group)
     (group_life ((now, Claim c) ∷ past) c.key c.group))
-IsTold past now (AutoClaim c) answer =
+IsReported past now (AutoClaim c) answer =
     let found = scan_at past now c.key c.group (auto_claim c.consumer c.rule c.start c.limit) in
     IfThere (is_some (group_life past c.key c.group)) answer
     ((told : List Reply)
@@ -131,5 +131,5 @@ IsTold past now (AutoClaim c) answer =
     × TellsTaken c.rule.just_id (added_at past c.key) found.claim.take told
     × IsAssigned c.consumer found.claim (group_life past c.key c.group)
     (group_life ((now, AutoClaim c) ∷ past) c.key c.group))
-IsTold past now (Inspect inspection) answer = TellsContent past now inspection answer
-IsTold past now _ answer = Unit {0}
+IsReported past now (Inspect inspection) answer = TellsContent past now inspection answer
+IsReported past now _ answer = Unit {0}

@@ -19,7 +19,7 @@ array_or_null (r ∷ rs) = array (r ∷ rs)
 abbrev pub id_reply : Id → Reply
 id_reply id = Bulk (id_text id)
 
--- the name and the value of a field in turn
+-- the name of a field, and then its value
 abbrev pub field_replies : Field → List Reply
 field_replies field = Bulk field.name ∷ Bulk field.value ∷ []
 

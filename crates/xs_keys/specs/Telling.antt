@@ -17,7 +17,7 @@ TellsEntryOrNull added present x answer =
     (has_id present x ≡ true → TellsEntry added x answer)
     × (has_id present x ≡ false → answer ≡ array (id_reply x ∷ NullArray ∷ []))
 
--- each of these ids in turn, and no more
+-- each of these ids in order, and no more
 abbrev pub TellsEach : (Id → Reply → Type 0) → List Id → List Reply → Type 0
 TellsEach Tells [] [] = Unit {0}
 TellsEach Tells (x ∷ xs) (told ∷ more) = Tells x told × TellsEach Tells xs more

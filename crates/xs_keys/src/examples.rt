@@ -10,7 +10,7 @@ ghost use Rattle.xs_keys.specs.ExamplesHeadline as headline;
 ghost use Rattle.xs_keys.specs.ExamplesInspections.{Inspections};
 ghost use Rattle.xs_keys.specs.ExamplesJob as job;
 ghost use Rattle.xs_keys.specs.ExamplesPresence as presence;
-ghost use Rattle.xs_keys.specs.ExamplesReplies.{ToldAdditions, ToldReads, ToldClaims, ToldNumbers};
+ghost use Rattle.xs_keys.specs.ExamplesReplies.{ReportedAdditions, ReportedReads, ReportedClaims, ReportedNumbers};
 ghost use Rattle.xs_keys.specs.ExamplesTelling as telling;
 ghost use Rattle.xs_keys.specs.ExamplesWaiting as waiting;
 
@@ -85,8 +85,8 @@ pub fn memory()
 {}
 
 /// What replies report about entries.
-pub fn told()
-    ensures { history.Told }
+pub fn reported()
+    ensures { history.Reported }
 {}
 
 /// Whose turn it was.
@@ -155,23 +155,23 @@ pub fn endings()
 {}
 
 /// What the replies to reads of groups report.
-pub fn told_reads()
-    ensures { ToldReads }
+pub fn reported_reads()
+    ensures { ReportedReads }
 {}
 
 /// What the replies to additions report.
-pub fn told_additions()
-    ensures { ToldAdditions }
+pub fn reported_additions()
+    ensures { ReportedAdditions }
 {}
 
 /// What the replies to claims report.
-pub fn told_claims()
-    ensures { ToldClaims }
+pub fn reported_claims()
+    ensures { ReportedClaims }
 {}
 
 /// How many an acknowledgement, a deletion and a trim remove, and what XPENDING and XLEN count.
-pub fn told_numbers()
-    ensures { ToldNumbers }
+pub fn reported_numbers()
+    ensures { ReportedNumbers }
 {}
 
 /// How an entry is reported.

@@ -19,7 +19,7 @@ ghost use Rattle.xs_keys.specs.ContentAfter.{content_after};
 ghost use Rattle.xs_keys.specs.ConsistentContent.{IsConsistentContent};
 ghost use Rattle.xs_keys.specs.Reply.{reply};
 ghost use Rattle.xs_keys.specs.Step.{IsUnchangedIfRefused};
-ghost use Rattle.xs_keys.specs.RepliesTell.{IsTold};
+ghost use Rattle.xs_keys.specs.RepliesTell.{IsReported};
 ghost use Rattle.xs_keys.specs.ClaimsTake.{ClaimsAreExact};
 ghost use Rattle.xs_keys.specs.TimesAndCounts.{AreOfLastTouch};
 ghost use Rattle.xs_keys.specs.JobPlace.{Place, HasOnePlace, place_after};
@@ -99,9 +99,9 @@ pub fn lives_are_apart()
 
 /// An accepted read with `>` reports to its consumer the entries that the event delivers in the group, and an accepted
 /// claim those that it takes, each with the fields with which it was added (only ids under JUSTID).
-pub fn what_is_told_is_what_was_delivered()
+pub fn what_is_reported_is_what_was_delivered()
     ensures { (past : History) (content : Content) (now : ℕ) (command : Command) →
-        IsContent content past → IsWellFormed command → IsTold past now command (reply content now command) }
+        IsContent content past → IsWellFormed command → IsReported past now command (reply content now command) }
 {}
 
 /// The owner, found by looking back for the last event that assigned the entry and for a later one that settled it, is
@@ -152,7 +152,7 @@ pub fn the_life_of_a_job()
         place_after (later ++ earlier) key group x ≡ Some here }
     ensures places_add_up { (past : History) (key group : Bytes) (changes : List StreamEvent) (life : GroupLife) →
         key_life past key ≡ Some changes → group_life past key group ≡ Some life → PlacesAddUp changes life }
-    ensures told { (past : History) (content : Content) (now : ℕ) (key group : Bytes)
+    ensures reported { (past : History) (content : Content) (now : ℕ) (key group : Bytes)
         (changes : List StreamEvent) (life : GroupLife) → IsContent content past → key_life past key ≡ Some changes →
         group_life past key group ≡ Some life →
         TellsPending content now key group (length (jobs_at is_pending changes life)) }

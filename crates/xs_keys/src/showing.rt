@@ -20,7 +20,7 @@ pub fn push_id(tokens: &mut Tokens, alloc: Global, id: Id) -> Result<(), AllocEr
     tokens.push_bulk(text.as_slice())
 }
 
-/// Appends the names and values of fields in turn.
+/// Appends the names and values of fields in order.
 fn push_fields(tokens: &mut Tokens, fields: PackedFields<'_>) -> Result<(), AllocError>
     ensures { OnOk result (tokens.new ≡ tokens.old
         ++ tokens_of (array (flat_map field_replies fields.entry))) }

@@ -35,7 +35,7 @@ pub(crate) const WHOLE: Range = Range {
 const GROUP_TOKENS: usize = 13;
 
 /// A number as it is reported: one above 63 bits as the greatest of 63 bits.
-fn told_number(number: u128) -> u64
+fn reported_number(number: u128) -> u64
     ensures value { result ≡ min number greatest_count }
     ensures small { result < 2 ^ 63 }
 {
@@ -71,7 +71,7 @@ fn push_read(tokens: &mut Tokens, stream: &Stream, cursor: Id, lag: u64) -> Resu
         return tokens.push_null_bulk();
     }
     let read = stream.added().saturating_sub(u128::from(lag));
-    tokens.push_int(U63::new(told_number(read)))
+    tokens.push_int(U63::new(reported_number(read)))
 }
 
 /// Appends the progress of a group with this cursor in a stream.
@@ -233,7 +233,7 @@ pub(crate) fn push_past(
     ensures { OnOk result (tokens.new ≡ tokens.old
         ++ flat_map tokens_of (past_part (state_of stream.now) first)) }
 {
-    let added = told_number(stream.added());
+    let added = reported_number(stream.added());
     tokens.push_bulk(b"last-generated-id")?;
     push_id(tokens, alloc, stream.top())?;
     tokens.push_bulk(b"max-deleted-entry-id")?;

@@ -4,7 +4,7 @@ pub mod Headers
 pub mod Steps
 pub mod Crashed
 pub mod ClosedLogs
-pub mod LogsInTurn
+pub mod LogsInOrder
 pub mod TapeLogs
 pub mod Restarts
 pub mod Results

@@ -22,13 +22,13 @@ use Rattle.xs_log.proofs.Steps.{spellings-more, all-more, records-more}
 
 -- ---- a tape whose content isn't known stays so
 
-untold-on : (b : Bool) (p : List ℕ) (o : Option TapeBytes) (first more : List (List ℕ)) (text other : List ℕ) (sure fewer : ℕ) → MayBeOnTape b p o first text sure → MayBeOnTape b p o more other fewer
+unknown-on : (b : Bool) (p : List ℕ) (o : Option TapeBytes) (first more : List (List ℕ)) (text other : List ℕ) (sure fewer : ℕ) → MayBeOnTape b p o first text sure → MayBeOnTape b p o more other fewer
     → (first ≡ more → ⊥) → o ≡ None
-untold-on b p None first more text other sure fewer h k differ = refl
-untold-on b p (Some t) first more text other sure fewer h k differ = absurd (differ (sym h.closed_is ∙ k.closed_is))
+unknown-on b p None first more text other sure fewer h k differ = refl
+unknown-on b p (Some t) first more text other sure fewer h k differ = absurd (differ (sym h.closed_is ∙ k.closed_is))
 
-untold : (w : Writing) (text other : List ℕ) (sure fewer : ℕ) → Has w [] text sure → Has w ([] ∷ []) other fewer → w.holds ≡ None
-untold w text other sure fewer h k = untold-on w.broken w.pending w.holds [] ([] ∷ []) text other sure fewer h k (λ e. absurd (cc (e)))
+unknown : (w : Writing) (text other : List ℕ) (sure fewer : ℕ) → Has w [] text sure → Has w ([] ∷ []) other fewer → w.holds ≡ None
+unknown w text other sure fewer h k = unknown-on w.broken w.pending w.holds [] ([] ∷ []) text other sure fewer h k (λ e. absurd (cc (e)))
 
 -- how a call changes the content of a tape
 abbrev Makes : Writing → Writing → Type 0
@@ -92,7 +92,7 @@ noted-on : (number : ℕ) (words : List (List ℕ)) (event : Event) (old new : W
     → Puts old new (spelling words) → CanBeSpelled words → IsRecordOf words event → MayBeLogOnTape old.broken number old.pending o events kept → MayBeLogOnTape new.broken number new.pending n (events ++ event ∷ []) kept
 noted-on number words event old new o None events kept e f sound puts can of log = tt
 noted-on number words event old new None (Some n) events kept e f sound puts can of log =
-    let none = untold new _ _ 0 0 (puts.puts [] [] 0 (has-none old [] [] 0 e)) (puts.puts ([] ∷ []) [] 0 (has-none old ([] ∷ []) [] 0 e)) in
+    let none = unknown new _ _ 0 0 (puts.puts [] [] 0 (has-none old [] [] 0 e)) (puts.puts ([] ∷ []) [] 0 (has-none old ([] ∷ []) [] 0 e)) in
     absurd (cc (none, f))
 noted-on number words event old new (Some o) (Some n) events kept e f sound puts can of log =
     let text = spellings log.requests in
@@ -133,7 +133,7 @@ kept-on : (number : ℕ) (old new : Writing) (o n : Option TapeBytes) (events : 
     → MayBeLogOnTape new.broken number new.pending n events (length events)
 kept-on number old new o None events kept e f sound keeps log = tt
 kept-on number old new None (Some n) events kept e f sound keeps log =
-    let none = untold new _ _ 0 0 (keeps [] [] 0 (has-none old [] [] 0 e)) (keeps ([] ∷ []) [] 0 (has-none old ([] ∷ []) [] 0 e)) in
+    let none = unknown new _ _ 0 0 (keeps [] [] 0 (has-none old [] [] 0 e)) (keeps ([] ∷ []) [] 0 (has-none old ([] ∷ []) [] 0 e)) in
     absurd (cc (none, f))
 kept-on number old new (Some o) (Some n) events kept e f sound keeps log =
     let text = spellings log.requests in
@@ -167,7 +167,7 @@ same-on : (number : ℕ) (old new : Writing) (o n : Option TapeBytes) (events : 
     → MayBeLogOnTape new.broken number new.pending n events kept
 same-on number old new o None events kept e f sound makes log = tt
 same-on number old new None (Some n) events kept e f sound makes log =
-    let none = untold new _ _ 0 0 (makes [] [] 0 (has-none old [] [] 0 e)) (makes ([] ∷ []) [] 0 (has-none old ([] ∷ []) [] 0 e)) in
+    let none = unknown new _ _ 0 0 (makes [] [] 0 (has-none old [] [] 0 e)) (makes ([] ∷ []) [] 0 (has-none old ([] ∷ []) [] 0 e)) in
     absurd (cc (none, f))
 same-on number old new (Some o) (Some n) events kept e f sound makes log =
     let text = spellings log.requests in
@@ -217,7 +217,7 @@ header-on : (number k sure : ℕ) (old new : Writing) (o n : Option TapeBytes) (
     → MayHaveClosedLogs number old.pending o events → MayBeLogOnTape new.broken number new.pending n events (length events)
 header-on number k sure old new o None events e f sound small makes s le kept log = tt
 header-on number k sure old new None (Some n) events e f sound small makes s le kept log =
-    let none = untold new _ _ _ _ (makes [] (has-none old [] [] 0 e)) (makes ([] ∷ []) (has-none old ([] ∷ []) [] 0 e)) in
+    let none = unknown new _ _ _ _ (makes [] (has-none old [] [] 0 e)) (makes ([] ∷ []) (has-none old ([] ∷ []) [] 0 e)) in
     absurd (cc (none, f))
 header-on number k sure old new (Some o) (Some n) events e f sound small makes s le kept log =
     let requests = header_words number ∷ [] in
@@ -338,7 +338,7 @@ begun-on : (number : ℕ) (old new : Writing) (o n : Option TapeBytes) (events :
     → MayHaveClosedLogs (number + 1) new.pending n events
 begun-on number old new o None events e f sound fine closes log = tt
 begun-on number old new None (Some n) events e f sound fine closes log =
-    let none = untold-on new.broken new.pending new.holds ([] ∷ []) ([] ∷ [] ∷ []) [] [] 0 0 (closes [] [] (has-none old [] [] 0 e)) (closes ([] ∷ []) [] (has-none old ([] ∷ []) [] 0 e)) (λ d. absurd (cc (d))) in
+    let none = unknown-on new.broken new.pending new.holds ([] ∷ []) ([] ∷ [] ∷ []) [] [] 0 0 (closes [] [] (has-none old [] [] 0 e)) (closes ([] ∷ []) [] (has-none old ([] ∷ []) [] 0 e)) (λ d. absurd (cc (d))) in
     absurd (cc (none, f))
 begun-on number old new (Some o) (Some n) events e f sound fine closes log =
     let text = spellings log.requests in
@@ -383,8 +383,8 @@ unheaded number p t closed events small are tape = record {
 }
 
 -- a tape whose content isn't known has no closed files either
-closed-untold : (old new : Writing) → ((closed : List (List ℕ)) → Has new closed [] 0 ⊎ Has new (closed ++ [] ∷ []) [] 0) → new.holds ≡ None
-closed-untold old new has = elim (has []) [
+closed-unknown : (old new : Writing) → ((closed : List (List ℕ)) → Has new closed [] 0 ⊎ Has new (closed ++ [] ∷ []) [] 0) → new.holds ≡ None
+closed-unknown old new has = elim (has []) [
   | inl h ↦ elim (has ([] ∷ [])) [
     | inl k ↦ differ [] ([] ∷ []) h k (λ d. absurd (cc (d)))
     | inr k ↦ differ [] ([] ∷ [] ∷ []) h k (λ d. absurd (cc (d)))
@@ -396,26 +396,26 @@ closed-untold old new has = elim (has []) [
 ]
   where
     differ : (a b : List (List ℕ)) → Has new a [] 0 → Has new b [] 0 → (a ≡ b → ⊥) → new.holds ≡ None
-    differ a b h k d = untold-on new.broken new.pending new.holds a b [] [] 0 0 h k d
+    differ a b h k d = unknown-on new.broken new.pending new.holds a b [] [] 0 0 h k d
 
-pub closes_untold : {E : Type 0} (result : Result (Unit {0}) E) (old new : Writing) → ((closed : List (List ℕ)) (text : List ℕ) → Has old closed text (length text) → Closes result new closed text) → old.holds ≡ None → new.holds ≡ None
-closes_untold (Ok u) old new closes e = closed-untold old new (λ closed. inr (closes closed [] (has-none old closed [] 0 e)))
-closes_untold (Err x) old new closes e = closed-untold old new (λ closed. closes closed [] (has-none old closed [] 0 e))
+pub closes_unknown : {E : Type 0} (result : Result (Unit {0}) E) (old new : Writing) → ((closed : List (List ℕ)) (text : List ℕ) → Has old closed text (length text) → Closes result new closed text) → old.holds ≡ None → new.holds ≡ None
+closes_unknown (Ok u) old new closes e = closed-unknown old new (λ closed. inr (closes closed [] (has-none old closed [] 0 e)))
+closes_unknown (Err x) old new closes e = closed-unknown old new (λ closed. closes closed [] (has-none old closed [] 0 e))
 
-pub puts_untold : (old new : Writing) (bytes : List ℕ) → Puts old new bytes → old.holds ≡ None → new.holds ≡ None
-puts_untold old new bytes puts e = untold new _ _ 0 0 (puts.puts [] [] 0 (has-none old [] [] 0 e)) (puts.puts ([] ∷ []) [] 0 (has-none old ([] ∷ []) [] 0 e))
+pub puts_unknown : (old new : Writing) (bytes : List ℕ) → Puts old new bytes → old.holds ≡ None → new.holds ≡ None
+puts_unknown old new bytes puts e = unknown new _ _ 0 0 (puts.puts [] [] 0 (has-none old [] [] 0 e)) (puts.puts ([] ∷ []) [] 0 (has-none old ([] ∷ []) [] 0 e))
 
-pub keeps_untold : {E : Type 0} (result : Result (Unit {0}) E) (old new : Writing) → ((closed : List (List ℕ)) (text : List ℕ) (sure : ℕ) → Has old closed text sure → Keeps result new closed text sure) → old.holds ≡ None
+pub keeps_unknown : {E : Type 0} (result : Result (Unit {0}) E) (old new : Writing) → ((closed : List (List ℕ)) (text : List ℕ) (sure : ℕ) → Has old closed text sure → Keeps result new closed text sure) → old.holds ≡ None
     → new.holds ≡ None
-keeps_untold (Ok u) old new keeps e = untold new _ _ 0 0 (keeps [] [] 0 (has-none old [] [] 0 e)) (keeps ([] ∷ []) [] 0 (has-none old ([] ∷ []) [] 0 e))
-keeps_untold (Err x) old new keeps e = untold new _ _ 0 0 (keeps [] [] 0 (has-none old [] [] 0 e)) (keeps ([] ∷ []) [] 0 (has-none old ([] ∷ []) [] 0 e))
+keeps_unknown (Ok u) old new keeps e = unknown new _ _ 0 0 (keeps [] [] 0 (has-none old [] [] 0 e)) (keeps ([] ∷ []) [] 0 (has-none old ([] ∷ []) [] 0 e))
+keeps_unknown (Err x) old new keeps e = unknown new _ _ 0 0 (keeps [] [] 0 (has-none old [] [] 0 e)) (keeps ([] ∷ []) [] 0 (has-none old ([] ∷ []) [] 0 e))
 
 unbegun-on : (number : ℕ) (old new : Writing) (o n : Option TapeBytes) (events : List Event) → old.holds ≡ o → new.holds ≡ n → old.broken ≡ false → new.broken ≡ true → number + 1 < 2 ^ 64
     → ((closed : List (List ℕ)) (text : List ℕ) → Has old closed text (length text) → Has new closed text (length text) ⊎ Has new (closed ++ text ∷ []) [] 0) → MayBeLogOnTape false number old.pending o events (length events)
     → MayBeLogOnTape true number new.pending n events (length events)
 unbegun-on number old new o None events e f sound broken small closes log = tt
 unbegun-on number old new None (Some n) events e f sound broken small closes log =
-    let none = closed-untold old new (λ closed. closes closed [] (has-none old closed [] 0 e)) in
+    let none = closed-unknown old new (λ closed. closes closed [] (has-none old closed [] 0 e)) in
     absurd (cc (none, f))
 unbegun-on number old new (Some o) (Some n) events e f sound broken small closes log =
     let text = spellings log.requests in

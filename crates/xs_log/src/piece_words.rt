@@ -67,7 +67,7 @@ fn copy_of(alloc: Global, word: &Bytes) -> Result<Bytes, AllocError>
     Bytes::from_slice(alloc, word.as_slice())
 }
 
-/// The fields that words spell, names and values in turn.
+/// The fields that words spell, names and values in order.
 fn fields_of(alloc: Global, words: &[Bytes]) -> Result<Option<List<Field>>, AllocError>
     ensures { IfOk result (λ fields. fields ≡ fields_of_words words.now) }
 {

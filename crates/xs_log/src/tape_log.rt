@@ -51,7 +51,7 @@ impl<T: Tape + Drop> TapeLog<T> {
         ensures has { (events : List Event) → AwaitsHeader self.old.number self.old.writer events →
             HasLog (self.new.failed || self.new.writer.broken) self.new.number self.new.writer events
             (length events) }
-        ensures untold { self.old.writer.holds ≡ None → self.new.writer.holds ≡ None }
+        ensures unknown { self.old.writer.holds ≡ None → self.new.writer.holds ≡ None }
         ensures fault { (self.new.failed || self.new.writer.broken) ≡ is_err result }
     {
         let Ok(rest) = header_rest(self.alloc, self.number) else {
@@ -77,7 +77,7 @@ impl<T: Tape + Drop> TapeLog<T> {
             (length events) →
             HasLog (self.new.failed || self.new.writer.broken) self.new.number self.new.writer events
             (length events) }
-        ensures untold { self.old.writer.holds ≡ None → self.new.writer.holds ≡ None }
+        ensures unknown { self.old.writer.holds ≡ None → self.new.writer.holds ≡ None }
         ensures fault { (self.new.failed || self.new.writer.broken) ≡ is_err result }
     {
         let Some(number) = self.number.checked_add(1) else {

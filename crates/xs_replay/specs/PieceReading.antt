@@ -23,7 +23,7 @@ wide_of_words high low = wide_of_parts (natural_of high) (natural_of low)
 abbrev pub small_of_word : List ℕ → Option ℕ
 small_of_word word = option_and_then (λ n. if nat_lt n (2 ^ 63) then Some n else None) (natural_of word)
 
--- names and values in turn
+-- names and values in order
 abbrev pub fields_of_words : List (List ℕ) → Option (List Field)
 fields_of_words [] = Some []
 fields_of_words (name ∷ []) = None

@@ -1,4 +1,4 @@
--- Tokens that are appended, and tokens that are read in turn.
+-- Tokens that are appended, and tokens that are read in order.
 use Rattle.std.proofs.Common.{◌≡◌, ℕ, ◌+◌, ◌<◌, ◌≤◌, get_or, append_assoc, add-one, subst, List, [], ◌∷◌, ◌++◌, length}
 use Rattle.std.proofs.Common.{take, drop, refl, sym, ap, ◌∙◌, arith, length-append, length-drop}
 use Rattle.std.proofs.Math.Seq.{drop-append_seam, take-length, take-suc}
@@ -58,7 +58,7 @@ module _ (ms : List Mark) (m : Mark) (strings : List ℕ) (fits : strings_length
   pub lengths-same : strings_length (ms ++ m ∷ []) ≡ length strings
   lengths-same = omega (arith, fits, is, lengths-append ms (m ∷ []))
 
--- ---- the tokens in turn
+-- ---- the tokens in order
 
 module _ (ms : List Mark) (i : ℕ) (d : Mark) (strings : List ℕ) (low : i < length ms) where
   abbrev m : Mark

@@ -22,7 +22,7 @@ ReadsHeld (Ok bytes) requests held = Reads bytes requests held
 ReadsHeld (Err wrong) requests held = (requests ≡ []) × (held ≡ Err wrong)
 
 -- the requests that are taken after the first piece, and those after the others
-pub record Turn (old : Held) (requests : List (List (List ℕ))) (rest : List (List (List ℕ)) → Held → Type 0) :
+pub record ReadsOn (old : Held) (requests : List (List (List ℕ))) (rest : List (List (List ℕ)) → Held → Type 0) :
     Type 0 where
   pub first : List (List (List ℕ))
   pub others : List (List (List ℕ))
@@ -35,4 +35,4 @@ pub record Turn (old : Held) (requests : List (List (List ℕ))) (rest : List (L
 abbrev pub ReadsPieces : Held → List (List ℕ) → List (List (List ℕ)) → Held → Type 0
 ReadsPieces old [] requests held = (requests ≡ []) × (held ≡ old)
 ReadsPieces old (piece ∷ pieces) requests held =
-    Turn (with_piece old piece) requests (λ others between. ReadsPieces between pieces others held)
+    ReadsOn (with_piece old piece) requests (λ others between. ReadsPieces between pieces others held)

@@ -1,4 +1,4 @@
--- Replies as tokens in turn.
+-- Replies as tokens in order.
 use Rattle.std.specs.Prelude.{List, [], ◌∷◌, length}
 use Rattle.std.specs.List.{flat_map}
 use Rattle.xs_resp.specs.declared.reply.Reply.{Reply}

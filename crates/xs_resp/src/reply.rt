@@ -46,7 +46,7 @@ pub enum Reply {
     NullArray,
 }
 
-/// The items of an array: their number, and their tokens in turn. An item that is an array is its header and the tokens
+/// The items of an array: their number, and their tokens in order. An item that is an array is its header and the tokens
 /// of its own items, so a reply of many small arrays is one list in memory. The tokens are always this many items, each
 /// of them complete.
 #[derive(Debug, Drop)]

@@ -1,4 +1,4 @@
-//! Tokens in turn, from which replies are written.
+//! Tokens in order, from which replies are written.
 ghost use Rattle.std.specs.Prelude.{◌≡◌, [], ◌∷◌, ◌++◌, length, IfOk, OnOk, OnErr};
 ghost use Rattle.xs_resp.specs.Token as token;
 ghost use Rattle.xs_resp.specs.Marks.{token_in, tokens_in, string_length, strings_length};

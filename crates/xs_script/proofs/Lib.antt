@@ -3,4 +3,4 @@ pub mod LineEnds
 pub mod HeldLines
 pub mod ScriptLines
 pub mod ScriptHeadline
-pub mod ScriptTurns
+pub mod ScriptSteps

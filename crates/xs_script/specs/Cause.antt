@@ -1,7 +1,7 @@
 -- Why a script ended.
-use Rattle.std.specs.Prelude.{◌≡◌, ℕ, ◌+◌, ◌⊎◌, Bool, true, List, Option}
-use Rattle.xs_io.specs.Passing.{Passing, IsAtEnd}
+use Rattle.std.specs.Prelude.{◌≡◌, ℕ, ◌+◌, ◌⊎◌, true}
 use Rattle.xs_io.specs.Device.{counter_at}
+use Rattle.xs_io.specs.DeviceState.{ReaderState, WriterState, HasReachedEnd}
 
 pub data Cause : Type 0 where
   itself : Cause  -- it ended by itself, or found no memory for more bytes
@@ -13,10 +13,10 @@ pub data Cause : Type 0 where
 abbrev pub reads_limit : ℕ
 reads_limit = 1000000000000
 
--- what is known of a cause from a reader that has these bytes left, and from a writer
-abbrev pub HasCause : Cause → Passing → Bool → Bool → ℕ → ℕ → Bool → Type 0
-HasCause itself rest ended broken before calls unwritten = Unit {0}
-HasCause input rest ended broken before calls unwritten = IsAtEnd rest × (ended ≡ true)
-HasCause reader rest ended broken before calls unwritten =
-    (broken ≡ true) ⊎ (counter_at calls ≡ counter_at (before + reads_limit))
-HasCause writer rest ended broken before calls unwritten = unwritten ≡ true
+-- what is known of a cause from the reader before the script and after it, and from the writer after it
+abbrev pub HasCause : Cause → ReaderState → ReaderState → WriterState → Type 0
+HasCause itself old new output = Unit {0}
+HasCause input old new output = HasReachedEnd new
+HasCause reader old new output =
+    (new.broken ≡ true) ⊎ (counter_at new.calls ≡ counter_at (old.calls + reads_limit))
+HasCause writer old new output = output.broken ≡ true

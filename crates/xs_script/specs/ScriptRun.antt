@@ -6,8 +6,8 @@ use Rattle.std.specs.List.{flat_map, list_any}
 use Rattle.xs_keys.specs.Event.{History}
 use Rattle.xs_keys.specs.Content.{Content, IsContent}
 use Rattle.xs_script.specs.declared.state.Script.{Script as State}
-use Rattle.xs_script.specs.declared.state.Turn.{Turn}
-use Rattle.xs_script.specs.declared.state.Turn.TheVariants.{Ends}
+use Rattle.xs_script.specs.declared.state.Next.{Next}
+use Rattle.xs_script.specs.declared.state.Next.TheVariants.{Ends}
 use Rattle.xs_script.specs.declared.fault.ScriptFault.{ScriptFault}
 use Rattle.xs_script.specs.declared.fault.ScriptFault.TheVariants.{Line, Read, Write, Memory}
 use Rattle.xs_io.specs.Device.{counter_at}
@@ -102,10 +102,10 @@ RunsBy cause result read sent =
 abbrev pub IsWaiting : List ℕ → Type 0
 IsWaiting held = (list_any is_line_end held ≡ false) × (length held ≤ line_limit)
 
--- after a turn a script is in this state, or it has ended
-abbrev pub AfterTurn : Turn → Type 0 → (Result ℕ ScriptFault → Type 0) → Type 0
-AfterTurn (Ends end) Stands HasEnded = HasEnded end
-AfterTurn _ Stands HasEnded = Stands
+-- after a step a script is in this state, or it has ended
+abbrev pub AfterStep : Next → Type 0 → (Result ℕ ScriptFault → Type 0) → Type 0
+AfterStep (Ends end) Stands HasEnded = HasEnded end
+AfterStep _ Stands HasEnded = Stands
 
 -- a script ends so once all unwritten bytes are written; or as one whose writer failed, after a part of them
 abbrev pub EndsOnceWritten : Cause → Result ℕ ScriptFault → List ℕ → List ℕ → State → Type 0

@@ -1,14 +1,15 @@
 //! A script over a reader and a writer.
-ghost use Rattle.std.specs.Prelude.{◌≡◌, ◌+◌, ◌*◌, ◌<◌, ◌≤◌, ◌⊎◌, ◌++◌, [], Bool, ℕ, List, true, Err, length, take};
+ghost use Rattle.std.specs.Prelude.{◌≡◌, ◌+◌, ◌*◌, ◌<◌, ◌≤◌, ◌⊎◌, ◌++◌, [], ℕ, List, true, Err, length, take};
 ghost use Rattle.std.specs.Prelude.{OnOk, OnErr, IfErr, MatchResult};
 ghost use Rattle.xs_io.specs.Passing.{Appends, Consumes};
 ghost use Rattle.xs_io.specs.Device.{counter_at};
+ghost use Rattle.xs_io.specs.DeviceState.{ReaderState, WriterState, input_of, output_of};
 ghost use Rattle.xs_keys.specs.Content.{Content};
 ghost use Rattle.xs_script.specs.Cause.{Cause, HasCause, reads_limit, writer as writer_failed};
 ghost use Rattle.xs_script.specs.ScriptRun.{Runs, RunsBy, ScriptIsAfter, EndsOnceWritten, IsWritten, cause_of_script};
 
 use crate::fault::ScriptFault;
-use crate::state::{Script, Turn};
+use crate::state::{Next, Script};
 use std::alloc::Global;
 use xs_io::{Fill, FillFault, Sink, Source, write_all};
 use xs_keys::Keyspace;
@@ -19,28 +20,28 @@ const READS: u64 = 1_000_000_000_000;
 /// The unwritten bytes from which on replies are written.
 const WRITE_BYTES: usize = 65_536;
 
-/// Takes the script's next turn, and reads on if it waits. If the script ends, its end is the error.
-fn take_turn<R: Source>(
+/// Takes the script's next step, and reads on if it waits. If the script ends, its end is the error.
+fn step<R: Source>(
     reader: &mut R,
     left: &mut u64,
     script: &mut Script,
     keyspace: &mut Keyspace,
 ) -> Result<(), Result<u64, ScriptFault>>
-    ensures turn { (read sent : List ℕ) → ScriptIsAfter read sent script.old keyspace.old →
+    ensures steps { (read sent : List ℕ) → ScriptIsAfter read sent script.old keyspace.old →
         (got : List ℕ) × Consumes (R.rest reader.old) (R.rest reader.new) got
         × MatchResult result (λ _. ScriptIsAfter (read ++ got) sent script.new keyspace.new)
         (λ end. (cause : Cause) × EndsOnceWritten cause end (read ++ got) sent script.new
-        × ((before : ℕ) (broken : Bool) → counter_at (R.calls reader.old + left.old) ≡ counter_at (before + reads_limit)
-        → HasCause cause (R.rest reader.new) (R.ended reader.new) (R.broken reader.new)
-        before (R.calls reader.new) broken)) }
+        × ((first : ReaderState) (output : WriterState) →
+        counter_at (R.calls reader.old + left.old) ≡ counter_at (first.calls + reads_limit)
+        → HasCause cause first (input_of R.Source reader.new) output)) }
     ensures counted { counter_at (R.calls reader.new + left.new) ≡ counter_at (R.calls reader.old + left.old) }
     ensures less { OnOk result
         (left.new * 65537 + length script.new.held < left.old * 65537 + length script.old.held) }
 {
     match script.advance(keyspace) {
-        Turn::Goes => return Ok(()),
-        Turn::Ends(end) => return Err(end),
-        Turn::Waits => {}
+        Next::Goes => return Ok(()),
+        Next::Ends(end) => return Err(end),
+        Next::Waits => {}
     }
     if *left == 0 {
         return Err(script.read_error());
@@ -115,7 +116,7 @@ fn send_last<W: Sink>(
     }
 }
 
-/// Drives a script to its end: its turns are taken one after the other, bytes are read into it if it waits, and its
+/// Drives a script to its end: its steps are taken one after the other, bytes are read into it if it waits, and its
 /// unwritten bytes are written once they are enough, and all of them at its end.
 fn drive<R: Source, W: Sink>(
     reader: &mut R,
@@ -127,13 +128,12 @@ fn drive<R: Source, W: Sink>(
     ensures ends { (read sent : List ℕ) × (cause : Cause)
         × Consumes (R.rest reader.old) (R.rest reader.new) read × Appends (W.held writer.old) (W.held writer.new) sent
         × RunsBy cause result read sent
-        × HasCause cause (R.rest reader.new) (R.ended reader.new) (R.broken reader.new)
-        (R.calls reader.old) (R.calls reader.new) (W.broken writer.new) }
+        × HasCause cause (input_of R.Source reader.old) (input_of R.Source reader.new) (output_of W.Sink writer.new) }
     ensures reads { counter_at (R.calls reader.new) ≤ R.calls reader.old + reads_limit }
 {
     let mut left = READS;
-    'turns: loop {
-        match take_turn(reader, &mut left, script, keyspace) {
+    'steps: loop {
+        match step(reader, &mut left, script, keyspace) {
             Ok(()) => {}
             Err(end) => return send_last(writer, script, end),
         }
@@ -155,8 +155,8 @@ pub fn run_script<R: Source, W: Sink>(
         × Appends (W.held writer.old) (W.held writer.new) sent
         × Runs result read sent (R.rest reader.new) (R.ended reader.new) }
     ensures reads { counter_at (R.calls reader.new) ≤ R.calls reader.old + reads_limit }
-    ensures cause { HasCause (cause_of_script result) (R.rest reader.new) (R.ended reader.new) (R.broken reader.new)
-        (R.calls reader.old) (R.calls reader.new) (W.broken writer.new) }
+    ensures cause { HasCause (cause_of_script result)
+        (input_of R.Source reader.old) (input_of R.Source reader.new) (output_of W.Sink writer.new) }
 {
     let mut script = Script::new(alloc);
     let mut keyspace = Keyspace::new(alloc);

@@ -1,8 +1,8 @@
-//! A script without IO of its own: each of its turns answers a line.
+//! A script without IO of its own: each of its steps answers a line.
 ghost use Rattle.std.specs.Prelude.{◌≡◌, ◌+◌, ◌<◌, ◌≤◌, ℕ, List, length, Err};
 ghost use Rattle.xs_io.specs.Device.{counter_at};
 ghost use Rattle.xs_script.specs.Cause.{itself, input};
-ghost use Rattle.xs_script.specs.ScriptRun.{IsNewScript, IsWaiting, IsWritten, ScriptIsAfter, AfterTurn, EndsOnceWritten};
+ghost use Rattle.xs_script.specs.ScriptRun.{IsNewScript, IsWaiting, IsWritten, ScriptIsAfter, AfterStep, EndsOnceWritten};
 
 use crate::fault::ScriptFault;
 use crate::lines::held::HeldBytes;
@@ -13,9 +13,9 @@ use xs_keys::Keyspace;
 /// The most bytes of a line, without its LF.
 const LINE_LIMIT: usize = 1_048_576;
 
-/// The result of a turn of a script.
+/// What a script does next.
 #[derive(Clone, Copy, Debug, PartialEq, Eq)]
-pub enum Turn {
+pub enum Next {
     /// It goes on.
     Goes,
     /// It waits for bytes.
@@ -95,33 +95,33 @@ impl Script {
         })
     }
 
-    /// Takes the next turn: a line is answered, if one is complete.
-    pub fn advance(&mut self, keyspace: &mut Keyspace) -> Turn
-        ensures turns { (read sent : List ℕ) → ScriptIsAfter read sent self.old keyspace.old →
-            AfterTurn result (ScriptIsAfter read sent self.new keyspace.new)
+    /// Takes the next step: a line is answered, if one is complete.
+    pub fn advance(&mut self, keyspace: &mut Keyspace) -> Next
+        ensures after { (read sent : List ℕ) → ScriptIsAfter read sent self.old keyspace.old →
+            AfterStep result (ScriptIsAfter read sent self.new keyspace.new)
             (λ end. EndsOnceWritten itself end read sent self.new) }
-        ensures waits { result ≡ Turn.Waits → IsWaiting self.new.held }
-        ensures less { result ≡ Turn.Goes → length self.new.held < length self.old.held }
+        ensures waits { result ≡ Next.Waits → IsWaiting self.new.held }
+        ensures less { result ≡ Next.Goes → length self.new.held < length self.old.held }
         ensures same { length self.new.held ≤ length self.old.held }
     {
         let Some(at) = self.held.line_end() else {
             if self.held.bytes().len() > LINE_LIMIT {
-                return Turn::Ends(self.line_error());
+                return Next::Ends(self.line_error());
             }
-            return Turn::Waits;
+            return Next::Waits;
         };
         if at > LINE_LIMIT {
-            return Turn::Ends(self.line_error());
+            return Next::Ends(self.line_error());
         }
         let line = &self.held.bytes()[..at];
         match serve_line(self.alloc, keyspace, line, &mut self.owed) {
             Ok(()) => {}
-            Err(LineFault::NoLine) => return Turn::Ends(self.line_error()),
-            Err(LineFault::Memory) => return Turn::Ends(self.out_of_memory()),
+            Err(LineFault::NoLine) => return Next::Ends(self.line_error()),
+            Err(LineFault::Memory) => return Next::Ends(self.out_of_memory()),
         }
         self.held.consume(at + 1);
         self.number = self.number.saturating_add(1);
-        Turn::Goes
+        Next::Goes
     }
 
     /// Ends the script, because the input has ended: the last line may lack its end.

@@ -44,10 +44,10 @@ closed-at-zero fault_of IsDone (Err failed) status old new held holds broken clo
     let bad : 1 ≡ 0 = sym told.0 ∙ zero in absurd cc
 
 -- it is 0 and nothing is reported, or 1 and a cause is reported
-pub told-of-work : {W A B : Type 0} (fault_of : B → WorkFault) (worked : Result A B) (status : ℕ) (old new : W) (held holds : Passing) (broken : Bool)
+pub reported-of-work : {W A B : Type 0} (fault_of : B → WorkFault) (worked : Result A B) (status : ℕ) (old new : W) (held holds : Passing) (broken : Bool)
     → ReportsWork fault_of worked status old new held holds broken → ((status ≡ 0) × (new ≡ old)) ⊎ ((status ≡ 1) × (cause : List ℕ) × IsServeCause cause × Says cause held holds broken)
-told-of-work fault_of (Ok outcome) status old new held holds broken told = inl told
-told-of-work fault_of (Err failed) status old new held holds broken told = inr (told.0, work_text (fault_of failed), is-cause (fault_of failed), told.1)
+reported-of-work fault_of (Ok outcome) status old new held holds broken told = inl told
+reported-of-work fault_of (Err failed) status old new held holds broken told = inr (told.0, work_text (fault_of failed), is-cause (fault_of failed), told.1)
 
 -- after an outcome of work over new gates
 pub served-at-zero : {W G A B : Type 0} (fault_of : B → WorkFault) (trace : G → GateTrace) (gates : List G) (manner : Manner) (n : ℕ) (now : A → List GateTrace) (summary : A → Summary) (worked : Result A B) (status : ℕ) (old new : W)

@@ -68,7 +68,7 @@ pub fn serve_and_report<
         + 'static,
 >(rt: &R, alloc: Global, options: ServeOptions, out: W, errors: &mut E) -> u8
     ensures served { result ≡ 0 → HasServed manner.Plain options.workers }
-    ensures told { ((result ≡ 0) × (errors.new ≡ errors.old))
+    ensures reported { ((result ≡ 0) × (errors.new ≡ errors.old))
         ⊎ ((result ≡ 1) × (cause : List ℕ) × IsServeCause cause
         × Says cause (E.held errors.old) (E.held errors.new) (E.broken errors.new)) }
 {

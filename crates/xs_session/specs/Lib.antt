@@ -8,6 +8,6 @@ pub mod Taking
 pub mod Examples
 pub mod ExamplesPlaces
 pub mod ExamplesSessions
-pub mod ExamplesTurns
+pub mod ExamplesSteps
 pub mod ExamplesManners
 pub mod ExamplesInformation

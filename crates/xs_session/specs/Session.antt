@@ -24,8 +24,8 @@ use Rattle.xs_session.specs.declared.manner.Manner.TheVariants.{Plain, Full}
 use Rattle.xs_session.specs.declared.ending.Ending.{Ending}
 use Rattle.xs_session.specs.declared.ending.Ending.TheVariants as ending
 use Rattle.xs_session.specs.declared.session.Session.{Session}
-use Rattle.xs_session.specs.declared.session.Turn.{Turn}
-use Rattle.xs_session.specs.declared.session.Turn.TheVariants as turn
+use Rattle.xs_session.specs.declared.session.Next.{Next}
+use Rattle.xs_session.specs.declared.session.Next.TheVariants as next
 use Rattle.xs_session.specs.Strangers.{is_too_much}
 use Rattle.xs_session.specs.Places.{is_open}
 use Rattle.xs_session.specs.declared.places.Place.{Place}
@@ -113,9 +113,9 @@ pub record IsNew (manner : Manner) (session : Session) : Type 0 where
   pub alone : session.alone ≡ false
   pub first : IsFirst manner session.standing
 
--- the command that a turn asks
-abbrev pub asked_in : Turn → List Command
-asked_in (turn.Asks call) = call.command ∷ []
+-- the command that a step asks
+abbrev pub asked_in : Next → List Command
+asked_in (next.Asks call) = call.command ∷ []
 asked_in _ = []
 
 -- the request at the front is taken, its command is asked, and the answer is waited for at this place; a command is
@@ -129,9 +129,9 @@ pub record AsksFront (old : Session) (command : Command) (place : Place) (new : 
   pub standing : new.standing ≡ old.standing
 
 -- the next command that EXEC has released was asked; alone only once every answer is gathered
-pub record AsksReleased (old : Session) (command : Command) (result : Turn) (new : Session) : Type 0 where
+pub record AsksReleased (old : Session) (command : Command) (result : Next) (new : Session) : Type 0 where
   pub call : Call
-  pub asks : result ≡ turn.Asks call
+  pub asks : result ≡ next.Asks call
   pub call_is : call.command ≡ command
   pub words : List (List ℕ)
   pub others : List (List (List ℕ))
@@ -150,27 +150,27 @@ AsksOrWaits old command place true new = AsksFront old command place new
 AsksOrWaits old command place false new = new ≡ record old { alone = true }
 
 -- the next one of EXEC was asked, or it is to be asked alone and has to wait
-abbrev pub ReleasesOrWaits : Session → Command → Turn → Session → Type 0
+abbrev pub ReleasesOrWaits : Session → Command → Next → Session → Type 0
 ReleasesOrWaits old command result new =
-    AsksReleased old command result new ⊎ ((result ≡ turn.Full) × (new ≡ record old { alone = true }))
+    AsksReleased old command result new ⊎ ((result ≡ next.Full) × (new ≡ record old { alone = true }))
 
 -- a request was taken, or has to wait; what is asked is well formed, and has its words if they are needed
-abbrev pub Takes : Bool → Turn → Type 0
-Takes wants_words turn.Goes = Unit {0}
-Takes wants_words turn.Full = Unit {0}
-Takes wants_words (turn.Asks call) = IsFormed call × (wants_words ≡ true → is_some call.words ≡ true)
+abbrev pub Takes : Bool → Next → Type 0
+Takes wants_words next.Goes = Unit {0}
+Takes wants_words next.Full = Unit {0}
+Takes wants_words (next.Asks call) = IsFormed call × (wants_words ≡ true → is_some call.words ≡ true)
 Takes wants_words _ = ⊥
 
--- a turn takes at most one place: of a call that is asked, whose answer is waited for; else of an answer, which is
+-- a step takes at most one place: of a call that is asked, whose answer is waited for; else of an answer, which is
 -- there
-abbrev pub TakesPlace : Turn → List Place → List Place → Type 0
-TakesPlace (turn.Asks call) old new = (place : Place) × (is_open place ≡ true) × (new ≡ old ++ place ∷ [])
+abbrev pub TakesPlace : Next → List Place → List Place → Type 0
+TakesPlace (next.Asks call) old new = (place : Place) × (is_open place ≡ true) × (new ≡ old ++ place ∷ [])
 TakesPlace _ old new = (new ≡ old) ⊎ ((reply : Reply) × (new ≡ old ++ Answer reply ∷ []))
 
 -- what was taken, or isn't complete yet, is no more than a client may send before it has given the password
-abbrev pub IsHeard : Manner → Standing → Held → Turn → Type 0
-IsHeard manner standing held turn.Goes = is_stranger manner standing ≡ true → is_too_much held ≡ false
-IsHeard manner standing held turn.Waits = is_stranger manner standing ≡ true → is_too_much held ≡ false
+abbrev pub IsHeard : Manner → Standing → Held → Next → Type 0
+IsHeard manner standing held next.Goes = is_stranger manner standing ≡ true → is_too_much held ≡ false
+IsHeard manner standing held next.Waits = is_stranger manner standing ≡ true → is_too_much held ≡ false
 IsHeard manner standing held _ = Unit {0}
 
 -- it waits for bytes: no complete request is held, and no fault

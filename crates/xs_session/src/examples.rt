@@ -6,7 +6,7 @@ ghost use Rattle.xs_session.specs.ExamplesInformation.{Sections, Lines, Informin
 ghost use Rattle.xs_session.specs.ExamplesManners.{Free, Guarded, Transactions};
 ghost use Rattle.xs_session.specs.ExamplesPlaces.{Places};
 ghost use Rattle.xs_session.specs.ExamplesSessions.{Sessions, NoSessions};
-ghost use Rattle.xs_session.specs.ExamplesTurns.{Turns, TurnsOfSessions};
+ghost use Rattle.xs_session.specs.ExamplesSteps.{Steps, StepsOfSessions};
 
 /// How one request is taken.
 pub fn takings()
@@ -78,12 +78,12 @@ pub fn no_sessions()
     ensures { NoSessions }
 {}
 
-/// What a turn may do.
-pub fn turns()
-    ensures { Turns }
+/// What a step may do.
+pub fn steps()
+    ensures { Steps }
 {}
 
-/// What turns of all sessions may do.
-pub fn turns_of_sessions()
-    ensures { TurnsOfSessions }
+/// What steps of all sessions may do.
+pub fn steps_of_sessions()
+    ensures { StepsOfSessions }
 {}

@@ -20,6 +20,6 @@ pub use information::{Information, names_keyspace};
 pub use manner::Manner;
 pub use places::{AHEAD, Place, Places};
 pub use reserve::Reserve;
-pub use session::{Session, Turn};
+pub use session::{Next, Session};
 pub use taking::{Taking, take_request};
 pub use tally::Tally;

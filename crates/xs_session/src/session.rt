@@ -42,9 +42,9 @@ use xs_desk::Call;
 use xs_io::{Fill, FillFault, Source};
 use xs_resp::{Encoder, Fault, Reply, Request, Requests};
 
-/// The result of a turn of a session.
+/// What a session does next.
 #[derive(Debug, Drop)]
-pub enum Turn {
+pub enum Next {
     /// It goes on.
     Goes,
     /// This call is asked. `hand_in` takes its reply.
@@ -232,28 +232,28 @@ impl Session {
     ///
     /// A command whose reply may have any size, or may take long, is asked only once every answer before it is
     /// gathered, and the next one once its own is. So at most one reply of any size is held.
-    pub fn advance<I: Inform>(&mut self, manner: &Manner, inform: &I, wants_words: bool) -> Turn
-        ensures turns { (read : List ℕ) (asked : List Command) (got : List Reply) (sent : List ℕ) →
+    pub fn advance<I: Inform>(&mut self, manner: &Manner, inform: &I, wants_words: bool) -> Next
+        ensures after { (read : List ℕ) (asked : List Command) (got : List Reply) (sent : List ℕ) →
             SessionIsAfter manner.now read asked got sent self.old →
             SessionIsAfter manner.now read (asked ++ asked_in result) got sent self.new }
-        ensures formed { (call : Call) → result ≡ Turn.Asks call → IsFormed call }
-        ensures words { wants_words ≡ true → (call : Call) → result ≡ Turn.Asks call → is_some call.words ≡ true }
-        ensures alone { (call : Call) → result ≡ Turn.Asks call →
+        ensures formed { (call : Call) → result ≡ Next.Asks call → IsFormed call }
+        ensures words { wants_words ≡ true → (call : Call) → result ≡ Next.Asks call → is_some call.words ≡ true }
+        ensures alone { (call : Call) → result ≡ Next.Asks call →
             (self.old.alone ≡ true) ⊎ (is_alone call.command ≡ true) → IsGathered self.old }
-        ensures ended { (ending : Ending) → result ≡ Turn.Ends ending → self.new.ended ≡ Some ending }
-        ensures waits { result ≡ Turn.Waits → Waits self.new.ended self.new.requests }
+        ensures ended { (ending : Ending) → result ≡ Next.Ends ending → self.new.ended ≡ Some ending }
+        ensures waits { result ≡ Next.Waits → Waits self.new.ended self.new.requests }
         ensures heard { released_of self.old.standing.transaction ≡ [] →
             IsHeard manner.now self.old.standing self.old.requests result }
-        ensures released { result ≡ Turn.Waits → released_of self.new.standing.transaction ≡ [] }
+        ensures released { result ≡ Next.Waits → released_of self.new.standing.transaction ≡ [] }
         ensures places { TakesPlace result self.old.places self.new.places }
         ensures owed { self.new.owed ≡ self.old.owed }
     {
         match self.ended {
-            Some(ending) => return Turn::Ends(ending),
+            Some(ending) => return Next::Ends(ending),
             None => {}
         }
         if !self.places.has_room(self.most) || self.waits_alone() {
-            return Turn::Full;
+            return Next::Full;
         }
         match self.standing.transaction.next() {
             Some(_) => self.run_next(wants_words),
@@ -262,16 +262,16 @@ impl Session {
     }
 
     /// Takes the next of the requests that EXEC has released. There has to be one, and room for its answer.
-    fn run_next(&mut self, wants_words: bool) -> Turn
+    fn run_next(&mut self, wants_words: bool) -> Next
         requires released { 0 < length (released_of self.old.standing.transaction) }
         requires room { length self.old.places < 32 }
         requires going { self.old.ended ≡ None }
         requires several { self.old.alone ≡ false }
-        ensures turns { (manner : Manner) (read : List ℕ) (asked : List Command) (got : List Reply) (sent : List ℕ) →
+        ensures after { (manner : Manner) (read : List ℕ) (asked : List Command) (got : List Reply) (sent : List ℕ) →
             SessionIsAfter manner read asked got sent self.old →
             SessionIsAfter manner read (asked ++ asked_in result) got sent self.new }
         ensures goes { Takes wants_words result }
-        ensures alone { (call : Call) → result ≡ Turn.Asks call → is_alone call.command ≡ true → IsGathered self.old }
+        ensures alone { (call : Call) → result ≡ Next.Asks call → is_alone call.command ≡ true → IsGathered self.old }
         ensures places { TakesPlace result self.old.places self.new.places }
         ensures owed { self.new.owed ≡ self.old.owed }
     {
@@ -287,13 +287,13 @@ impl Session {
             Err(reply) => {
                 let _ = self.standing.transaction.take_next();
                 self.places.say(reply);
-                Turn::Goes
+                Next::Goes
             }
         }
     }
 
     /// Asks a command that EXEC has released, unless it is to be asked alone and some answer isn't gathered.
-    fn ask_released(&mut self, wants_words: bool, command: Command) -> Turn
+    fn ask_released(&mut self, wants_words: bool, command: Command) -> Next
         requires said { (words : List (List ℕ)) × (others : List (List (List ℕ)))
             × (self.old.standing.transaction ≡ Transaction.Released (words ∷ others))
             × (command_of_words words ≡ Ok command) × (wants_words ≡ true → AreWordsOf words command) }
@@ -305,13 +305,13 @@ impl Session {
         ensures owed { self.new.owed ≡ self.old.owed }
     {
         if self.waits_for_others(&command) {
-            return Turn::Full;
+            return Next::Full;
         }
         let words = self.standing.transaction.take_next();
         self.places.ask(Place::Awaits);
         self.ended = end_by(&command);
         self.hurries = true;
-        Turn::Asks(Call {
+        Next::Asks(Call {
             command,
             words: wants_words.then_some(words),
         })
@@ -333,21 +333,21 @@ impl Session {
     }
 
     /// Takes the next request, if there is one. There has to be room for its answer.
-    fn take_next<I: Inform>(&mut self, manner: &Manner, inform: &I, wants_words: bool) -> Turn
+    fn take_next<I: Inform>(&mut self, manner: &Manner, inform: &I, wants_words: bool) -> Next
         requires room { length self.old.places < 32 }
         requires going { self.old.ended ≡ None }
         requires several { self.old.alone ≡ false }
         requires nothing { released_of self.old.standing.transaction ≡ [] }
-        ensures turns { (read : List ℕ) (asked : List Command) (got : List Reply) (sent : List ℕ) →
+        ensures after { (read : List ℕ) (asked : List Command) (got : List Reply) (sent : List ℕ) →
             SessionIsAfter manner.now read asked got sent self.old →
             SessionIsAfter manner.now read (asked ++ asked_in result) got sent self.new }
-        ensures formed { (call : Call) → result ≡ Turn.Asks call → IsFormed call }
-        ensures words { wants_words ≡ true → (call : Call) → result ≡ Turn.Asks call → is_some call.words ≡ true }
-        ensures alone { (call : Call) → result ≡ Turn.Asks call → is_alone call.command ≡ true → IsGathered self.old }
-        ensures ended { (ending : Ending) → result ≡ Turn.Ends ending → self.new.ended ≡ Some ending }
-        ensures waits { result ≡ Turn.Waits → Waits self.new.ended self.new.requests }
+        ensures formed { (call : Call) → result ≡ Next.Asks call → IsFormed call }
+        ensures words { wants_words ≡ true → (call : Call) → result ≡ Next.Asks call → is_some call.words ≡ true }
+        ensures alone { (call : Call) → result ≡ Next.Asks call → is_alone call.command ≡ true → IsGathered self.old }
+        ensures ended { (ending : Ending) → result ≡ Next.Ends ending → self.new.ended ≡ Some ending }
+        ensures waits { result ≡ Next.Waits → Waits self.new.ended self.new.requests }
         ensures heard { IsHeard manner.now self.old.standing self.old.requests result }
-        ensures released { result ≡ Turn.Waits → released_of self.new.standing.transaction ≡ [] }
+        ensures released { result ≡ Next.Waits → released_of self.new.standing.transaction ≡ [] }
         ensures places { TakesPlace result self.old.places self.new.places }
         ensures owed { self.new.owed ≡ self.old.owed }
     {
@@ -358,7 +358,7 @@ impl Session {
             return self.refuse();
         }
         if !is_whole {
-            return Turn::Waits;
+            return Next::Waits;
         }
         if waits_for_memory(
             self.alloc,
@@ -366,15 +366,15 @@ impl Session {
             &mut self.waits_left,
             self.requests.front(),
         ) {
-            return Turn::Full;
+            return Next::Full;
         }
         self.take_front(manner, inform, wants_words)
     }
 
     /// Takes no further request. The protocol error is the last answer.
-    fn refuse(&mut self) -> Turn
+    fn refuse(&mut self) -> Next
         requires room { length self.old.places < 32 }
-        ensures ends { result ≡ Turn.Ends Ending.Protocol }
+        ensures ends { result ≡ Next.Ends Ending.Protocol }
         ensures after { self.new ≡ record self.old {
           places = self.old.places ++ place.Answer (Reply.Error Fault.Protocol) ∷ [];
           ended = Some Ending.Protocol;
@@ -382,28 +382,28 @@ impl Session {
     {
         self.places.say(Reply::Error(Fault::Protocol));
         self.ended = Some(Ending::Protocol);
-        Turn::Ends(Ending::Protocol)
+        Next::Ends(Ending::Protocol)
     }
 
     /// Takes the request at the front, unless it has to wait for the replies before it.
-    fn take_front<I: Inform>(&mut self, manner: &Manner, inform: &I, wants_words: bool) -> Turn
+    fn take_front<I: Inform>(&mut self, manner: &Manner, inform: &I, wants_words: bool) -> Next
         requires whole { HasNext self.old.requests }
         requires room { length self.old.places < 32 }
         requires going { self.old.ended ≡ None }
         requires several { self.old.alone ≡ false }
         requires nothing { released_of self.old.standing.transaction ≡ [] }
-        ensures turns { (read : List ℕ) (asked : List Command) (got : List Reply) (sent : List ℕ) →
+        ensures after { (read : List ℕ) (asked : List Command) (got : List Reply) (sent : List ℕ) →
             SessionIsAfter manner.now read asked got sent self.old →
             SessionIsAfter manner.now read (asked ++ asked_in result) got sent self.new }
         ensures goes { Takes wants_words result }
-        ensures alone { (call : Call) → result ≡ Turn.Asks call → is_alone call.command ≡ true → IsGathered self.old }
+        ensures alone { (call : Call) → result ≡ Next.Asks call → is_alone call.command ≡ true → IsGathered self.old }
         ensures places { TakesPlace result self.old.places self.new.places }
         ensures owed { self.new.owed ≡ self.old.owed }
     {
         let words = self.requests.front();
         if words.is_empty() {
             self.requests.skip();
-            return Turn::Goes;
+            return Next::Goes;
         }
         let taken = take_request(
             self.alloc,
@@ -417,9 +417,9 @@ impl Session {
         match taken {
             Taking::Asks(call) => {
                 if self.take_call(&call.command, Place::Awaits) {
-                    Turn::Asks(call)
+                    Next::Asks(call)
                 } else {
-                    Turn::Full
+                    Next::Full
                 }
             }
             Taking::Says(reply) => self.say(reply),
@@ -428,10 +428,10 @@ impl Session {
     }
 
     /// Answers the request at the front at once.
-    fn say(&mut self, answer: Reply) -> Turn
+    fn say(&mut self, answer: Reply) -> Next
         requires whole { HasNext self.old.requests }
         requires room { length self.old.places < 32 }
-        ensures goes { result ≡ Turn.Goes }
+        ensures goes { result ≡ Next.Goes }
         ensures skips { Skips self.old.requests self.new.requests }
         ensures after { self.new ≡ record self.old {
           requests = self.new.requests;
@@ -440,11 +440,11 @@ impl Session {
     {
         self.requests.skip();
         self.places.say(answer);
-        Turn::Goes
+        Next::Goes
     }
 
     /// Takes INFO, which is at the front, once every answer is gathered: it reports what was answered before it.
-    fn inform<I: Inform>(&mut self, manner: &Manner, inform: &I, wants_words: bool) -> Turn
+    fn inform<I: Inform>(&mut self, manner: &Manner, inform: &I, wants_words: bool) -> Next
         requires whole { HasNext self.old.requests }
         requires room { length self.old.places < 32 }
         requires going { self.old.ended ≡ None }
@@ -452,16 +452,16 @@ impl Session {
         requires nothing { released_of self.old.standing.transaction ≡ [] }
         requires some { 0 < length (front_of self.old.requests) }
         requires unknown { IsUnknown manner.now self.old.standing (front_of self.old.requests) }
-        ensures turns { (read : List ℕ) (asked : List Command) (got : List Reply) (sent : List ℕ) →
+        ensures after { (read : List ℕ) (asked : List Command) (got : List Reply) (sent : List ℕ) →
             SessionIsAfter manner.now read asked got sent self.old →
             SessionIsAfter manner.now read (asked ++ asked_in result) got sent self.new }
         ensures goes { Takes wants_words result }
-        ensures alone { (call : Call) → result ≡ Turn.Asks call → is_alone call.command ≡ true → IsGathered self.old }
+        ensures alone { (call : Call) → result ≡ Next.Asks call → is_alone call.command ≡ true → IsGathered self.old }
         ensures places { TakesPlace result self.old.places self.new.places }
         ensures owed { self.new.owed ≡ self.old.owed }
     {
         if !self.is_gathered() {
-            return Turn::Full;
+            return Next::Full;
         }
         let words = self.requests.front();
         match take_info(
@@ -474,9 +474,9 @@ impl Session {
         ) {
             Ok((call, information)) => {
                 if self.take_call(&call.command, Place::AwaitsKeys(information)) {
-                    Turn::Asks(call)
+                    Next::Asks(call)
                 } else {
-                    Turn::Full
+                    Next::Full
                 }
             }
             Err(reply) => self.say(reply),

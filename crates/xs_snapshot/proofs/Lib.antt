@@ -3,7 +3,7 @@ pub mod Kept
 pub mod PiecesBehind
 pub mod LastConsumers
 pub mod KeysSoFar
-pub mod PiecesInTurn
+pub mod PiecesInOrder
 pub mod PiecesAhead
 pub mod RestorableContents
 pub mod KeptRestorable

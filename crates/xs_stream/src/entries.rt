@@ -553,7 +553,7 @@ impl Entries {
         }
     }
 
-    /// The number of entries with ids above a cursor. The blocks on both sides of it are counted by turns, until one
+    /// The number of entries with ids above a cursor. The blocks on both sides of it are counted alternately, until one
     /// side has no more: more of them at a time on the side that has fewer if ids are spread evenly.
     pub(crate) fn count_past(&self, cursor: Id) -> usize
         requires laid_down { IsLaidDown self.now }

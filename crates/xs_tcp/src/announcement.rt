@@ -14,8 +14,8 @@ pub struct Announcement {
 }
 
 /// Writes the line once the thread is woken. A fault of the writer is ignored.
-fn write_when_told<W: Sink + Drop, R: Wait>(rt: &R, told: &Parker, out: W, line: &[u8]) {
-    told.park(rt);
+fn write_when_woken<W: Sink + Drop, R: Wait>(rt: &R, parker: &Parker, out: W, line: &[u8]) {
+    parker.park(rt);
     let mut out = out;
     let _ = write_all(&mut out, line);
 }
@@ -29,11 +29,11 @@ impl Announcement {
         line: Vec<u8>,
     ) -> Result<Announcement, AllocError> {
         let parker = Arc::new(alloc, Parker::new())?;
-        let told = Arc::try_clone(&parker)?;
+        let waker = Arc::try_clone(&parker)?;
         let handle = *rt;
         match thread::spawn(
             rt,
-            move || write_when_told(&handle, &told, out, line.as_slice()),
+            move || write_when_woken(&handle, &waker, out, line.as_slice()),
         ) {
             Ok(_) => Ok(Announcement {
                 thread: Some(parker),

@@ -86,7 +86,7 @@ struct KeeperFigures {
     bytes_held: AtomicU64,
     blocked: AtomicU64,
     // The number of reports.
-    told: AtomicU64,
+    reports: AtomicU64,
     // Whether a report is requested.
     asked: AtomicBool,
     // Whether it waits for calls, and has reported before.
@@ -115,7 +115,7 @@ impl Figures {
         let keeper = KeeperFigures {
             bytes_held: AtomicU64::new(0),
             blocked: AtomicU64::new(0),
-            told: AtomicU64::new(0),
+            reports: AtomicU64::new(0),
             asked: AtomicBool::new(false),
             rests: AtomicBool::new(false),
         };
@@ -131,10 +131,10 @@ impl Figures {
             .bytes_held
             .store(state.bytes_held, Ordering::Relaxed);
         self.keeper.blocked.store(state.blocked, Ordering::Relaxed);
-        let told = self.keeper.told.load(Ordering::Relaxed);
+        let reports = self.keeper.reports.load(Ordering::Relaxed);
         self.keeper
-            .told
-            .store(told.wrapping_add(1), Ordering::SeqCst);
+            .reports
+            .store(reports.wrapping_add(1), Ordering::SeqCst);
     }
 
     /// Notes that the keeper goes on. Returns whether a report is requested.
@@ -156,15 +156,16 @@ impl Figures {
 
     /// Requests a report of the keeper. Returns the number of reports before.
     pub fn ask(&self) -> u64 {
-        let told = self.keeper.told.load(Ordering::SeqCst);
+        let reports = self.keeper.reports.load(Ordering::SeqCst);
         self.keeper.asked.store(true, Ordering::SeqCst);
-        told
+        reports
     }
 
     /// Whether the keeper has reported since there were this many reports: then its figures include each answer that
     /// was given until then.
-    pub fn has_told_since(&self, told: u64) -> bool {
-        self.keeper.rests.load(Ordering::SeqCst) || self.keeper.told.load(Ordering::SeqCst) != told
+    pub fn has_reported_since(&self, reports: u64) -> bool {
+        self.keeper.rests.load(Ordering::SeqCst)
+            || self.keeper.reports.load(Ordering::SeqCst) != reports
     }
 
     /// The number of bytes that the keys are counted with.

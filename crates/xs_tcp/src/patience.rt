@@ -50,9 +50,9 @@ impl<S: Wait + Clock + Drop> Watch<S> {
     /// second.
     fn wait_for_keeper(&self) {
         let figures = &self.information.figures;
-        let told = figures.ask();
+        let reports = figures.ask();
         for _ in 0..MOST_RESTS {
-            if figures.has_told_since(told) {
+            if figures.has_reported_since(reports) {
                 return;
             }
             thread::sleep(&self.system, Duration::from_millis(REST_MILLIS));

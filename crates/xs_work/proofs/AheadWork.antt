@@ -18,18 +18,18 @@ use Rattle.xs_session.specs.declared.manner.Manner.{Manner}
 use Rattle.xs_session.specs.declared.manner.Manner.TheVariants.{Plain, Full}
 use Rattle.xs_session.specs.Session.{IsFirst}
 use Rattle.xs_session.specs.declared.ending.Ending.{Ending}
-use Rattle.xs_session.proofs.SessionTurns.{after-new}
+use Rattle.xs_session.proofs.SessionSteps.{after-new}
 use Rattle.xs_work.specs.declared.ahead.AheadFault.{AheadFault}
 use Rattle.xs_work.specs.declared.ahead.AheadFault.TheVariants as fault
 use Rattle.xs_work.specs.Ahead.{ServesAhead, HasCauseOf}
 use Rattle.xs_work.specs.Texts.{Says}
 use Rattle.xs_work.specs.Gates.{Seen, GateTrace, AreFresh, with_given, with_returned, at_end}
-use Rattle.xs_work.specs.Workers.{no_memory, IsTold, ServesOne, ServesEach, ServesGate, Works}
+use Rattle.xs_work.specs.Workers.{no_memory, IsReported, ServesOne, ServesEach, ServesGate, Works}
 use Rattle.xs_work.proofs.AheadCalls.{calls-none}
 
 -- one more
 serves-more : (manner : Manner) (lost : Bool) (first mid last : Caller) (given returned : List Seen) (one back : Seen) (result : Result Ending AheadFault) → ServesEach manner lost first given returned mid
-    → (lost ≡ false → result ≢ Err fault.Port) → AreFresh one.rest one.held → ServesOne manner result mid last one back → ServesEach manner lost first (given ++ one ∷ []) (returned ++ back ∷ []) last
+    → (lost ≡ false → result ≢ Err fault.Port) → AreFresh one.input.rest one.output.held → ServesOne manner result mid last one back → ServesEach manner lost first (given ++ one ∷ []) (returned ++ back ∷ []) last
 serves-more manner lost first mid last [] [] one back result none answered fresh served =
     (result, last, answered, fresh, subst (λ (c : Caller). ServesOne manner result c last one back) none served, refl)
 serves-more manner lost first mid last [] (other ∷ returned) one back result none answered fresh served = absurd none
@@ -78,7 +78,7 @@ gate-over lost first last before now later s is = record {
 
 -- one more connection was given, served, and came back
 pub gate-more : (lost : Bool) (first mid last : Caller) (before now opened closed : GateTrace) (one back : Seen) (result : Result Ending AheadFault) (manner : Manner) → manner ≡ opened.manner → ServesGate lost first mid before now
-    → (opened ≡ with_given now one) × AreFresh one.rest one.held → closed ≡ with_returned opened back → (lost ≡ false → result ≢ Err fault.Port) → ServesOne manner result mid last one back → ServesGate lost first last before closed
+    → (opened ≡ with_given now one) × AreFresh one.input.rest one.output.held → closed ≡ with_returned opened back → (lost ≡ false → result ≢ Err fault.Port) → ServesOne manner result mid last one back → ServesGate lost first last before closed
 gate-more lost first mid last before now opened closed one back result manner is s (opens, fresh) closes answered served = record {
   given = s.given ++ one ∷ [];
   returned = s.returned ++ back ∷ [];
@@ -154,35 +154,35 @@ serves-none manner client = record {
 }
 
 -- a connection that ended out of memory, which was reported to its client
-pub serves-told : (manner : Manner) (first last : Caller) (read sent : List ℕ) (given back : Seen) (held : Passing) → Consumes given.rest back.rest read → Appends given.held held sent → ServesAhead (Err fault.Memory) first last manner read sent
-    → Says no_memory held back.held back.unwritten → ServesOne manner (Err fault.Memory) first last given back
-serves-told manner first last read sent given back held consumes appends served says = record {
+pub serves-reported : (manner : Manner) (first last : Caller) (read sent : List ℕ) (given back : Seen) (held : Passing) → Consumes given.input.rest back.input.rest read → Appends given.output.held held sent → ServesAhead (Err fault.Memory) first last manner read sent
+    → Says no_memory held back.output.held back.output.broken → ServesOne manner (Err fault.Memory) first last given back
+serves-reported manner first last read sent given back held consumes appends served says = record {
   read = read;
   sent = sent;
-  told = says.0;
+  reported = says.0;
   consumes = consumes;
-  appends = Appends-trans given.held held back.held sent says.0 appends says.3;
+  appends = Appends-trans given.output.held held back.output.held sent says.0 appends says.3;
   served = served;
   cause = tt;
-  is_told = (says.1, says.2, says.4);
+  is_reported = (says.1, says.2, says.4);
 }
 
 -- a connection that ended so that nothing was reported
-pub serves-untold : (manner : Manner) (result : Result Ending AheadFault) (first last : Caller) (read sent : List ℕ) (given back : Seen) → result ≢ Err fault.Memory → Consumes given.rest back.rest read → Appends given.held back.held sent
-    → ServesAhead result first last manner read sent → HasCauseOf result back.rest back.ended back.unread back.unwritten → ServesOne manner result first last given back
-serves-untold manner result first last read sent given back other consumes appends served cause = record {
+pub serves-unreported : (manner : Manner) (result : Result Ending AheadFault) (first last : Caller) (read sent : List ℕ) (given back : Seen) → result ≢ Err fault.Memory → Consumes given.input.rest back.input.rest read → Appends given.output.held back.output.held sent
+    → ServesAhead result first last manner read sent → HasCauseOf result back.input back.output → ServesOne manner result first last given back
+serves-unreported manner result first last read sent given back other consumes appends served cause = record {
   read = read;
   sent = sent;
-  told = [];
+  reported = [];
   consumes = consumes;
   appends = rw (append-nil sent) appends;
   served = served;
   cause = cause;
-  is_told = untold result back.unwritten other;
+  is_reported = unreported result back.output.broken other;
 } where
-  untold : (result : Result Ending AheadFault) (unwritten : Bool) → result ≢ Err fault.Memory → IsTold result [] unwritten
-  untold (Ok end) unwritten other = refl
-  untold (Err fault.Read) unwritten other = refl
-  untold (Err fault.Write) unwritten other = refl
-  untold (Err fault.Memory) unwritten other = absurd (other refl)
-  untold (Err fault.Port) unwritten other = refl
+  unreported : (result : Result Ending AheadFault) (unwritten : Bool) → result ≢ Err fault.Memory → IsReported result [] unwritten
+  unreported (Ok end) unwritten other = refl
+  unreported (Err fault.Read) unwritten other = refl
+  unreported (Err fault.Write) unwritten other = refl
+  unreported (Err fault.Memory) unwritten other = absurd (other refl)
+  unreported (Err fault.Port) unwritten other = refl

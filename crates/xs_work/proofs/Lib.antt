@@ -1,4 +1,4 @@
 pub mod WorkerEnds
 pub mod AheadCalls
-pub mod AheadTurns
+pub mod AheadSteps
 pub mod AheadWork

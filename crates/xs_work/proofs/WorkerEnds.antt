@@ -8,7 +8,7 @@ use Rattle.xs_keys.specs.Headline.{RunsOn}
 use Rattle.xs_desk.specs.declared.summary.Summary.{Summary}
 use Rattle.xs_desk.specs.Callers.{Caller, AreEndsOfLanes, HasEndOfLane}
 use Rattle.xs_desk.specs.Closing.{SumUp}
-use Rattle.xs_desk.specs.History.{LaneOf, ServedCall, Desk, IsHistory, events_of, replies_of}
+use Rattle.xs_desk.specs.ServedCalls.{LaneOf, ServedCall, Desk, AreCallsOf, events_of, replies_of}
 use Rattle.xs_desk.specs.KeptRings.{KeepsSide, KeepSides}
 use Rattle.xs_desk.specs.Opening.{AreNew}
 use Rattle.xs_desk.specs.Opening.{IsDeskError}
@@ -169,18 +169,18 @@ served-pool client_of gate_of trace faulty depth lanes clients ends gates later 
 
 -- a desk whose workers did this was closed
 pub closed-desk : (faulty : Bool) (desk : Desk) (ends : List Caller) (before now : List GateTrace) (summary : Summary) → AreEndsOfLanes desk.lanes ends → SumUp desk.lanes ends (length desk.lanes) summary.lanes.items
-    → ((history : List ServedCall) × IsHistory history desk × RunsOn empty (events_of history) (replies_of history) summary.keyspace) → length desk.lanes ≡ length before → AreServed faulty ends before now
+    → ((calls : List ServedCall) × AreCallsOf calls desk × RunsOn empty (events_of calls) (replies_of calls) summary.keyspace) → length desk.lanes ≡ length before → AreServed faulty ends before now
     → IsClosed faulty before now summary
-closed-desk faulty desk ends before now summary are lanes history count served = record {
+closed-desk faulty desk ends before now summary are lanes calls count served = record {
   desk = desk;
   ends = ends;
-  history = history.0;
+  calls = calls.0;
   count = count;
   are_ends = are;
   served = served;
   lanes = subst (λ (n : ℕ). SumUp desk.lanes ends n summary.lanes.items) count lanes;
-  is_history = history.1;
-  runs = history.2;
+  are_calls = calls.1;
+  runs = calls.2;
 }
 
 -- the same gates have the same traces
@@ -188,11 +188,11 @@ pub same-traces : {A B G : Type 0} (trace : G → GateTrace) (f : A → G) (h : 
 same-traces trace f h xs ys same = sym (map-of-map trace f xs) ∙ ap (map trace) same ∙ map-of-map trace h ys
 
 -- what is known of the first of a list, and of the others
-pub none-told : {H X : Type 0} (f : H → X) (rest all : List H) → rest ≡ all → [] ++ map f rest ≡ map f all
-none-told f rest all is = ap (map f) is
+pub none-mapped : {H X : Type 0} (f : H → X) (rest all : List H) → rest ≡ all → [] ++ map f rest ≡ map f all
+none-mapped f rest all is = ap (map f) is
 
-pub one-told : {H X : Type 0} (f : H → X) (told : List X) (one : H) (rest later all : List H) → told ++ map f rest ≡ map f all → rest ≡ one ∷ later → (told ++ f one ∷ []) ++ map f later ≡ map f all
-one-told f told one rest later all are is = append_assoc told (f one ∷ []) (map f later) ∙ (ap (λ hs. told ++ map f hs) (sym is) ∙ are)
+pub one-mapped : {H X : Type 0} (f : H → X) (told : List X) (one : H) (rest later all : List H) → told ++ map f rest ≡ map f all → rest ≡ one ∷ later → (told ++ f one ∷ []) ++ map f later ≡ map f all
+one-mapped f told one rest later all are is = append_assoc told (f one ∷ []) (map f later) ∙ (ap (λ hs. told ++ map f hs) (sym is) ∙ are)
 
-pub all-told : {H X : Type 0} (f : H → X) (told : List X) (rest all : List H) → told ++ map f rest ≡ map f all → rest ≡ [] → told ≡ map f all
-all-told f told rest all are none = sym (append-nil told) ∙ (ap (λ hs. told ++ map f hs) (sym none) ∙ are)
+pub all-mapped : {H X : Type 0} (f : H → X) (told : List X) (rest all : List H) → told ++ map f rest ≡ map f all → rest ≡ [] → told ≡ map f all
+all-mapped f told rest all are none = sym (append-nil told) ∙ (ap (λ hs. told ++ map f hs) (sym none) ∙ are)

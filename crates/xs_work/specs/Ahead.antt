@@ -3,7 +3,7 @@ use Rattle.std.specs.Prelude.{◌≡◌, ◌≢◌, ℕ, ◌<◌, ◌≤◌, Boo
 use Rattle.std.specs.Prelude.{Option, Some, None, Result, Ok, Err}
 use Rattle.xs_resp.specs.declared.reply.Reply.{Reply}
 use Rattle.xs_resp.specs.Grammar.{IsOpen}
-use Rattle.xs_io.specs.Passing.{Passing, IsAtEnd}
+use Rattle.xs_io.specs.DeviceState.{ReaderState, WriterState, HasReachedEnd}
 use Rattle.xs_resp.specs.HeldBytes.{Held}
 use Rattle.xs_resp.specs.LeftToWrite.{bytes_left}
 use Rattle.xs_command.specs.declared.command.Command.{Command}
@@ -48,7 +48,7 @@ pub record BreaksOff
   pub rest : List ℕ
   pub more_is : more ≡ before ++ part
   pub after : SessionIsAfter manner read asked got (sent ++ before) session
-  pub owed_is : bytes_left session.owed ≡ part ++ rest
+  pub unsent_is : bytes_left session.owed ≡ part ++ rest
   pub some : 0 < length rest
 
 -- nothing is waited for or unsent
@@ -67,13 +67,13 @@ AheadEnds (Err fault.Write) ended held places owed =
     (has_open places ≡ false) × (0 < length owed) × (length places ≤ 32)
 AheadEnds (Err fault.Port) ended held places owed = Unit {0}
 
--- what is known, from a reader that has these bytes left and from a writer, of how a connection ended
-abbrev pub HasCauseOf : Result Ending AheadFault → Passing → Bool → Bool → Bool → Type 0
-HasCauseOf (Ok ending.Closed) rest ended broken unwritten = IsAtEnd rest × (ended ≡ true)
-HasCauseOf (Ok ending.Cut) rest ended broken unwritten = IsAtEnd rest × (ended ≡ true)
-HasCauseOf (Err fault.Read) rest ended broken unwritten = broken ≡ true
-HasCauseOf (Err fault.Write) rest ended broken unwritten = unwritten ≡ true
-HasCauseOf _ rest ended broken unwritten = Unit {0}
+-- what is known, from its reader and its writer, of how a connection ended
+abbrev pub HasCauseOf : Result Ending AheadFault → ReaderState → WriterState → Type 0
+HasCauseOf (Ok ending.Closed) input output = HasReachedEnd input
+HasCauseOf (Ok ending.Cut) input output = HasReachedEnd input
+HasCauseOf (Err fault.Read) input output = input.broken ≡ true
+HasCauseOf (Err fault.Write) input output = output.broken ≡ true
+HasCauseOf _ input output = Unit {0}
 
 -- the writer failed, or the keeper is gone
 abbrev pub IsLost : AheadFault → Bool → Type 0

@@ -1,31 +1,26 @@
 -- The connections of a gate: those that it gave, and those that came back.
-use Rattle.std.specs.Prelude.{◌≡◌, ℕ, Bool, true, false, List, [], ◌∷◌, ◌++◌, map, Option}
+use Rattle.std.specs.Prelude.{◌≡◌, Bool, true, false, List, [], ◌∷◌, ◌++◌, map}
 use Rattle.xs_io.specs.Passing.{Passing}
+use Rattle.xs_io.specs.DeviceState.{ReaderState, WriterState, input_of, output_of}
+use Rattle.xs_io.specs.declared.device.Source as source
+use Rattle.xs_io.specs.declared.device.Sink as sink
 use Rattle.xs_session.specs.declared.manner.Manner.{Manner}
 
--- a connection: the bytes that have passed through its reader and its writer, and those that are left or held, if they
--- are known; whether the end of the input was reached; and whether the reader and the writer have failed
+-- a connection, as contracts see it
 pub record Seen : Type 0 where
-  pub rest : Passing
-  pub ended : Bool
-  pub unread : Bool
-  pub held : Passing
-  pub unwritten : Bool
+  pub input : ReaderState
+  pub output : WriterState
 
-abbrev pub seen : Passing → Bool → Bool → Passing → Bool → Seen
-seen rest ended unread held unwritten =
-    record { rest = rest; ended = ended; unread = unread; held = held; unwritten = unwritten }
+abbrev pub seen : {R W : Type 0} → source.Ghosts R → sink.Ghosts W → R × W → Seen
+seen reader writer one = record { input = input_of reader one.0; output = output_of writer one.1 }
 
 -- no byte has passed through a reader or a writer yet
 abbrev pub AreFresh : Passing → Passing → Type 0
 AreFresh rest held = (rest.passed ≡ []) × (held.passed ≡ [])
 
 -- each of these readers and writers, as contracts see it
-abbrev pub all_seen :
-    {R W : Type 0} → (R → Passing) → (R → Bool) → (R → Bool) → (W → Passing) → (W → Bool) → List (R × W)
-    → List Seen
-all_seen rest ended unread held unwritten ones =
-    map (λ one. seen (rest one.0) (ended one.0) (unread one.0) (held one.1) (unwritten one.1)) ones
+abbrev pub all_seen : {R W : Type 0} → source.Ghosts R → sink.Ghosts W → List (R × W) → List Seen
+all_seen reader writer ones = map (seen reader writer) ones
 
 -- a gate: which commands of its connections the sessions answer themselves; the connections that it gave, each in the
 -- state of that time; those that came back, each in the state of that time; and whether it gives no further one

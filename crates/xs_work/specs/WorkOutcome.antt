@@ -3,7 +3,7 @@ use Rattle.std.specs.Prelude.{◌≡◌, ◌⊎◌, ℕ, Bool, false, List, [], 
 use Rattle.xs_bytes.specs.SortedMap.{empty}
 use Rattle.xs_keys.specs.Headline.{RunsOn}
 use Rattle.xs_desk.specs.declared.summary.Summary.{Summary}
-use Rattle.xs_desk.specs.History.{ServedCall, Desk, IsHistory, events_of, replies_of}
+use Rattle.xs_desk.specs.ServedCalls.{ServedCall, Desk, AreCallsOf, events_of, replies_of}
 use Rattle.xs_desk.specs.Callers.{Caller, AreEndsOfLanes}
 use Rattle.xs_desk.specs.Closing.{SumUp}
 use Rattle.xs_desk.specs.Opening.{IsDeskError, IsLaneCount, IsDepth}
@@ -32,18 +32,18 @@ pub record AreServed (faulty : Bool) (ends : List Caller) (before now : List Gat
 
 -- A desk was closed that has a lane for each gate. The ends that came back are sides of its lanes, each gate was served
 -- through its lane, and to its end unless a worker had a fault, and the summary has a part for each lane, which counts
--- the calls and answers of its two sides; the calls that were served, in the order of their places, are the history of
--- the desk; and they are a run from the empty keyspace on, which gave these replies and left the summary's keyspace.
+-- the calls and answers of its two sides; the calls that were served, in the order of their places, are those of the
+-- desk; and they are a run from the empty keyspace on, which gave these replies and left the summary's keyspace.
 pub record IsClosed (faulty : Bool) (before now : List GateTrace) (summary : Summary) : Type 0 where
   pub desk : Desk
   pub ends : List Caller
-  pub history : List ServedCall
+  pub calls : List ServedCall
   pub count : length desk.lanes ≡ length before
   pub are_ends : AreEndsOfLanes desk.lanes ends
   pub served : AreServed faulty ends before now
   pub lanes : SumUp desk.lanes ends (length before) summary.lanes.items
-  pub is_history : IsHistory history desk
-  pub runs : RunsOn empty (events_of history) (replies_of history) summary.keyspace
+  pub are_calls : AreCallsOf calls desk
+  pub runs : RunsOn empty (events_of calls) (replies_of calls) summary.keyspace
 
 -- a desk was closed that had this many gates, none of which had given a connection before
 abbrev pub HasServed : Manner → ℕ → Type 0

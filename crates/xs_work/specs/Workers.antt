@@ -17,10 +17,10 @@ no_memory = codes "-OOM out of memory" ++ crlf
 
 -- out of memory was reported to the client of a connection that ended so, unless the writer failed; nothing was
 -- reported to any other
-abbrev pub IsTold : Result Ending AheadFault → List ℕ → Bool → Type 0
-IsTold (Err fault.Memory) told unwritten =
-    (rest : List ℕ) × (no_memory ≡ told ++ rest) × ((rest ≡ []) ⊎ (unwritten ≡ true))
-IsTold _ told unwritten = told ≡ []
+abbrev pub IsReported : Result Ending AheadFault → List ℕ → Bool → Type 0
+IsReported (Err fault.Memory) reported unwritten =
+    (rest : List ℕ) × (no_memory ≡ reported ++ rest) × ((rest ≡ []) ⊎ (unwritten ≡ true))
+IsReported _ reported unwritten = reported ≡ []
 
 -- a connection, from what was given to what came back: these bytes were read from it, and what they ask was submitted
 -- through the lane; the answers were sent; and it ended so, for a cause that its reader and its writer confirm
@@ -28,12 +28,12 @@ pub record ServesOne
     (manner : Manner) (result : Result Ending AheadFault) (first last : Caller) (given back : Seen) : Type 0 where
   pub read : List ℕ
   pub sent : List ℕ
-  pub told : List ℕ
-  pub consumes : Consumes given.rest back.rest read
-  pub appends : Appends given.held back.held (sent ++ told)
+  pub reported : List ℕ
+  pub consumes : Consumes given.input.rest back.input.rest read
+  pub appends : Appends given.output.held back.output.held (sent ++ reported)
   pub served : ServesAhead result first last manner read sent
-  pub cause : HasCauseOf result back.rest back.ended back.unread back.unwritten
-  pub is_told : IsTold result told back.unwritten
+  pub cause : HasCauseOf result back.input back.output
+  pub is_reported : IsReported result reported back.output.broken
 
 -- the connections that were given are those that came back, one by one and in order; nothing had passed through any
 -- before; each was served through the lane, and nothing else was submitted or taken; and unless the lane was lost, all
@@ -42,7 +42,7 @@ abbrev pub ServesEach : Manner → Bool → Caller → List Seen → List Seen �
 ServesEach manner lost first [] [] last = last ≡ first
 ServesEach manner lost first (one ∷ given) (back ∷ returned) last =
     (result : Result Ending AheadFault) × (mid : Caller) × (lost ≡ false → result ≢ Err fault.Port)
-    × AreFresh one.rest one.held × ServesOne manner result first mid one back
+    × AreFresh one.input.rest one.output.held × ServesOne manner result first mid one back
     × ServesEach manner lost mid given returned last
 ServesEach manner lost first _ _ last = ⊥
 

@@ -1,7 +1,8 @@
 //! A connection over a reader, a writer and a lane: its requests are asked ahead of the answers.
-ghost use Rattle.std.specs.Prelude.{◌≡◌, ◌⊎◌, ◌++◌, ◌∷◌, [], Bool, ℕ, List, true, false, Ok};
+ghost use Rattle.std.specs.Prelude.{◌≡◌, ◌⊎◌, ◌++◌, ◌∷◌, [], ℕ, List, true, false, Ok};
 ghost use Rattle.std.specs.Prelude.{◌<◌, ◌≤◌, length, OnOk, OnErr, IfErr, MatchResult};
 ghost use Rattle.xs_io.specs.Passing.{Appends, Consumes};
+ghost use Rattle.xs_io.specs.DeviceState.{WriterState, input_of, output_of};
 ghost use Rattle.xs_resp.specs.declared.reply.Reply.{Reply};
 ghost use Rattle.xs_resp.specs.LeftToWrite.{bytes_left};
 ghost use Rattle.xs_command.specs.declared.command.Command.{Command};
@@ -23,7 +24,7 @@ use xs_command::Words;
 use xs_connection::Inform;
 use xs_desk::{Call, Client, Pause, PortFault};
 use xs_io::{FillFault, Sink, Source, write_all};
-use xs_session::{Ending, Manner, Session, Turn};
+use xs_session::{Ending, Manner, Next, Session};
 
 /// Why a connection ended before its end.
 #[derive(Clone, Copy, Debug, PartialEq, Eq, Error)]
@@ -125,7 +126,7 @@ fn submit<P: Pause, T: Wait>(
 }
 
 /// Sends the unsent bytes, piece by piece.
-pub fn send_owed<W: Sink>(writer: &mut W, session: &mut Session) -> Result<(), AheadFault>
+pub fn send_unsent<W: Sink>(writer: &mut W, session: &mut Session) -> Result<(), AheadFault>
     ensures exact { (more : List ℕ) × Appends (W.held writer.old) (W.held writer.new) more × MatchResult result
         (λ _. more ≡ bytes_left session.old.owed) (λ _. IsPart more (bytes_left session.old.owed)) }
     ensures sends { (manner : Manner) (read : List ℕ) (asked : List Command) (got : List Reply) (sent : List ℕ) →
@@ -181,12 +182,12 @@ fn send_ready<W: Sink>(writer: &mut W, session: &mut Session) -> Result<(), Ahea
     ensures broken { OnErr result (W.broken writer.new ≡ true) }
 {
     gather_answers(session);
-    match send_owed(writer, session) {
+    match send_unsent(writer, session) {
         Ok(()) => {}
         Err(fault) => return Err(fault),
     }
     'answers: while gather_answers(session) {
-        match send_owed(writer, session) {
+        match send_unsent(writer, session) {
             Ok(()) => {}
             Err(fault) => return Err(fault),
         }
@@ -365,8 +366,7 @@ fn read_on<R: Source>(
     ensures ends { IfErr result (λ end. AheadEnds end session.new.ended session.new.requests session.new.places
         (bytes_left session.new.owed)) }
     ensures done { IsDone session.new.places (bytes_left session.new.owed) }
-    ensures cause { (unwritten : Bool) → IfErr result (λ end.
-        HasCauseOf end (R.rest reader.new) (R.ended reader.new) (R.broken reader.new) unwritten) }
+    ensures cause { (output : WriterState) → IfErr result (λ end. HasCauseOf end (input_of R.Source reader.new) output) }
 {
     match session.read_from(reader) {
         Ok(0) => Err(Ok(session.end())),
@@ -419,28 +419,28 @@ fn step<R: Source, W: Sink, P: Attend, T: Wait>(
         (λ _. (now : List Command)
         × IsAheadAfter first client.new manner.now (read ++ came) now now (sent ++ went) session.new)
         (λ end. ServesAhead end first client.new manner.now (read ++ came) (sent ++ went)
-        × HasCauseOf end (R.rest reader.new) (R.ended reader.new) (R.broken reader.new) (W.broken writer.new)) }
+        × HasCauseOf end (input_of R.Source reader.new) (output_of W.Sink writer.new)) }
 {
     let informant = Informant { worker: pause };
     match session.advance(manner, &informant, client.wants_words()) {
-        Turn::Goes => {
+        Next::Goes => {
             greet(manner, session, pause);
             Ok(())
         }
-        Turn::Asks(call) => match submit(rt, session, client, pause, call) {
+        Next::Asks(call) => match submit(rt, session, client, pause, call) {
             Ok(()) => Ok(()),
             Err(_) => Err(Err(AheadFault::Port)),
         },
-        Turn::Full => match make_room(rt, session, writer, client, pause) {
+        Next::Full => match make_room(rt, session, writer, client, pause) {
             Ok(()) => Ok(()),
             Err(fault) => Err(Err(fault)),
         },
-        Turn::Ends(ending) => match settle(rt, session, writer, client, pause) {
+        Next::Ends(ending) => match settle(rt, session, writer, client, pause) {
             Ok(true) => Ok(()),
             Ok(false) => Err(Ok(ending)),
             Err(fault) => Err(Err(fault)),
         },
-        Turn::Waits => match settle(rt, session, writer, client, pause) {
+        Next::Waits => match settle(rt, session, writer, client, pause) {
             Ok(true) => Ok(()),
             Ok(false) => {
                 pause.note(session.tally);
@@ -468,8 +468,7 @@ pub fn serve_ahead<R: Source, W: Sink, P: Attend, T: Wait>(
     ensures serves { (read sent : List ℕ)
         × Consumes (R.rest reader.old) (R.rest reader.new) read × Appends (W.held writer.old) (W.held writer.new) sent
         × ServesAhead result client.old client.new manner.now read sent }
-    ensures cause { HasCauseOf result (R.rest reader.new) (R.ended reader.new) (R.broken reader.new)
-        (W.broken writer.new) }
+    ensures cause { HasCauseOf result (input_of R.Source reader.new) (output_of W.Sink writer.new) }
     ensures clear { IsNew manner.now session.new }
 {
     session.clear(manner);

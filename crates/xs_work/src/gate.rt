@@ -40,15 +40,12 @@ pub trait Gate {
     ) -> Result<Option<(Self::Reader, Self::Writer)>, GateFault>
         ensures { MatchResult result
             (λ next. MatchOption next (trace self.new ≡ at_end (trace self.old))
-            (λ one. (trace self.new ≡ with_given (trace self.old)
-            (seen (Self.Reader.rest one.0) (Self.Reader.ended one.0) (Self.Reader.broken one.0)
-            (Self.Writer.held one.1) (Self.Writer.broken one.1)))
+            (λ one. (trace self.new ≡ with_given (trace self.old) (seen Self.Reader.Source Self.Writer.Sink one))
             × AreFresh (Self.Reader.rest one.0) (Self.Writer.held one.1)))
             (λ _. trace self.new ≡ at_end (trace self.old)) };
 
     /// Takes a connection back.
     fn close(&mut self, reader: Self::Reader, writer: Self::Writer)
         ensures { trace self.new ≡ with_returned (trace self.old)
-            (seen (Self.Reader.rest reader) (Self.Reader.ended reader) (Self.Reader.broken reader)
-            (Self.Writer.held writer) (Self.Writer.broken writer)) };
+            (seen Self.Reader.Source Self.Writer.Sink (reader, writer)) };
 }

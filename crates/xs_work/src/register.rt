@@ -24,8 +24,8 @@ impl<R: Source + Drop, W: Sink + Drop> Model for Register<R, W> {
 
     ghost view = { λ r. record {
       manner = Plain;
-      given = all_seen R.rest R.ended R.broken W.held W.broken r.given;
-      returned = all_seen R.rest R.ended R.broken W.held W.broken r.returned;
+      given = all_seen R.Source W.Sink r.given;
+      returned = all_seen R.Source W.Sink r.returned;
       is_over = r.is_over;
     } };
 }
@@ -44,16 +44,14 @@ impl<R: Source + Drop, W: Sink + Drop> Register<R, W> {
 
     /// Notes that this connection is given.
     pub fn give(&mut self, one: &(R, W))
-        ensures { self.new ≡ with_given self.old (seen (R.rest one.now.0) (R.ended one.now.0) (R.broken one.now.0)
-            (W.held one.now.1) (W.broken one.now.1)) }
+        ensures { self.new ≡ with_given self.old (seen R.Source W.Sink one.now) }
     {
         self.given.add(one);
     }
 
     /// Notes that this connection came back.
     pub fn take_back(&mut self, one: &(R, W))
-        ensures { self.new ≡ with_returned self.old (seen (R.rest one.now.0) (R.ended one.now.0) (R.broken one.now.0)
-            (W.held one.now.1) (W.broken one.now.1)) }
+        ensures { self.new ≡ with_returned self.old (seen R.Source W.Sink one.now) }
     {
         self.returned.add(one);
     }

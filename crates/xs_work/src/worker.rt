@@ -66,9 +66,7 @@ fn serve_one<S: Source, W: Sink, P: Attend, R: Wait>(
     pause: &P,
 ) -> Result<Ending, AheadFault>
     ensures { ServesOne manner.now result client.old client.new
-        (seen (S.rest reader.old) (S.ended reader.old) (S.broken reader.old) (W.held writer.old) (W.broken writer.old))
-        (seen (S.rest reader.new) (S.ended reader.new) (S.broken reader.new)
-        (W.held writer.new) (W.broken writer.new)) }
+        (seen S.Source W.Sink (reader.old, writer.old)) (seen S.Source W.Sink (reader.new, writer.new)) }
 {
     let Ok(session) = memory.session() else {
         say(writer, NO_MEMORY);

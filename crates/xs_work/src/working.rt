@@ -129,7 +129,7 @@ fn conclude<G: Gate + Drop>(alloc: Global, done: Done<G>) -> Result<WorkOutcome<
         → AreServed (is_err done.outcome) done.ended.items before (map G.trace done.gates.items)
         → IfErr result (λ failed. IfSome failed.outcome (λ outcome. IsClosed true before
         (map G.trace outcome.gates.items) outcome.summary)) }
-    ensures told { IfErr result (λ failed. IsOfWorker failed.fault → IsSome failed.outcome) }
+    ensures reported { IfErr result (λ failed. IsOfWorker failed.fault → IsSome failed.outcome) }
     ensures fault { (most n depth : ℕ) → IsLaneCount most n × IsDepth depth
         → IfErr result (λ failed. IsWorkFault most n depth failed.fault) }
     ensures worker { IfErr done.outcome (λ fault. IsErrAnd result (λ failed. (failed.fault ≡ work_fault fault)
@@ -167,7 +167,7 @@ fn open<G: Drop>(
     ensures new { IfOk result (λ r. AreNew 0 depth r.0.lanes r.1.items × (length r.0.lanes ≡ n)) }
     ensures count { IfOk result (λ _. IsLaneCount 1024 n × IsDepth depth) }
     ensures fault { IfErr result (λ failed. IsWorkFault 1024 n depth failed.fault) }
-    ensures told { IfErr result (λ failed. IsOfWorker failed.fault → IsSome failed.outcome) }
+    ensures reported { IfErr result (λ failed. IsOfWorker failed.fault → IsSome failed.outcome) }
     ensures none { IfErr result (λ failed. failed.outcome ≡ None) }
 {
     match wide_desk(alloc, n, depth) {
@@ -196,7 +196,7 @@ pub fn work<
         (map G.trace outcome.gates.items) outcome.summary) }
     ensures stopped { IfErr result (λ failed. IfSome failed.outcome (λ outcome. IsClosed true
         (map G.trace gates.items) (map G.trace outcome.gates.items) outcome.summary)) }
-    ensures told { IfErr result (λ failed. IsOfWorker failed.fault → IsSome failed.outcome) }
+    ensures reported { IfErr result (λ failed. IsOfWorker failed.fault → IsSome failed.outcome) }
     ensures fault { IfErr result (λ failed. IsWorkFault 64 (length gates.items) depth failed.fault) }
 {
     if gates.len() > MAX_GATES {
@@ -228,7 +228,7 @@ pub fn work_with<
         (map G.trace outcome.gates.items) outcome.summary) }
     ensures stopped { IfErr result (λ failed. IfSome failed.outcome (λ outcome. IsClosed true
         (map G.trace gates.items) (map G.trace outcome.gates.items) outcome.summary)) }
-    ensures told { IfErr result (λ failed. IsOfWorker failed.fault → IsSome failed.outcome) }
+    ensures reported { IfErr result (λ failed. IsOfWorker failed.fault → IsSome failed.outcome) }
     ensures fault { IfErr result (λ failed. IsWorkFault 1024 (length gates.items) depth failed.fault) }
 {
     let (keeper, clients) = open::<G>(alloc, gates.len(), depth)?;

@@ -2,4 +2,4 @@ use Rattle.xs_desk.proofs.Durables.{survives}
 use Rattle.xs_desk.proofs.laws.what_was_handed_out_survives.Goals as goal
 
 pub returns : goal.returns
-returns g c = λ history ends start content journal durable. survives g.J.Journal.has history ends start content journal durable
+returns g c = λ calls ends start content journal durable. survives g.J.Journal.has calls ends start content journal durable

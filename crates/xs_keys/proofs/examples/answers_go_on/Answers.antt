@@ -9,7 +9,7 @@ use Rattle.xs_keys.proofs.examples.answers_go_on.Goals as goal
 
 -- over a past that left nothing
 pings : (now : ℕ) (past : History) → IsContent empty past → JoinsOrIsLeftOut past now (Ping None) (Simple Pong) (ping now ∷ past)
-pings now past left = inl (record { formed = tt; content = empty; left_by = left; answer_is = refl; told = tt; unchanged = λ e. refl }, refl)
+pings now past left = inl (record { formed = tt; content = empty; left_by = left; answer_is = refl; reported = tt; unchanged = λ e. refl }, refl)
 
 pub returns : goal.returns
 unfolding empty get insert_by remove change

@@ -33,5 +33,5 @@ returns-clause-places_add_up c = λ past key group changes life k g.
 pub returns-clause-for_good : goal.returns-clause-for_good
 returns-clause-for_good c = for-good
 
-pub returns-clause-told : goal.returns-clause-told
-returns-clause-told c = λ past content now key group changes life is k g. tells-pending content past now key group changes life is k g
+pub returns-clause-reported : goal.returns-clause-reported
+returns-clause-reported c = λ past content now key group changes life is k g. tells-pending content past now key group changes life is k g

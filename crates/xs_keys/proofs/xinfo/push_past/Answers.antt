@@ -7,6 +7,6 @@ returns c =
     let top = appended before _ _ _ _ c.in_ok-push_bulk.ensures.ok (rw c.top.ensures.value at c.in_ok-push_id.ensures) in
     let deleted = appended before _ _ _ _ top c.in_ok-push_bulk-2.ensures.ok in
     let id = appended before _ _ _ _ deleted (rw c.deleted.ensures at c.in_ok-push_id-2.ensures) in
-    let added = appended before _ _ _ _ id (rw (c.told_number-added.ensures.value, c.added.ensures) at c.in_ok-push_number.ensures) in
+    let added = appended before _ _ _ _ id (rw (c.reported_number-added.ensures.value, c.added.ensures) at c.in_ok-push_number.ensures) in
     let first = appended before _ _ _ _ added c.in_ok-push_bulk-3.ensures.ok in
     appended-last c.push_id-3.result before _ _ _ _ first c.push_id-3.ensures

@@ -6,7 +6,7 @@ use Rattle.xs_replay.specs.After.{contents_after, moment_after}
 use Rattle.xs_log.specs.Reading.{IsClosedLog}
 use Rattle.xs_log.specs.Logs.{GiveClosedLogs, MayGiveClosedLogs}
 use Rattle.xs_log.proofs.Crashed.{read-whole}
-use Rattle.xs_log.proofs.LogsInTurn.{contents-joined, moments-joined, may-more, give-at}
+use Rattle.xs_log.proofs.LogsInOrder.{contents-joined, moments-joined, may-more, give-at}
 use Rattle.xs_log.proofs.logs.read_closed_logs.Goals as goal
 
 pub loop-log-init : goal.loop-log-init

@@ -3,7 +3,7 @@ use Rattle.xs_tape.specs.Crash.{before_zero}
 use Rattle.xs_replay.specs.Log.{HasEvents}
 use Rattle.xs_replay.specs.After.{contents_after, moment_after}
 use Rattle.xs_log.specs.Logs.{CrashLeavesLog}
-use Rattle.xs_log.proofs.LogsInTurn.{contents-joined, moments-joined}
+use Rattle.xs_log.proofs.LogsInOrder.{contents-joined, moments-joined}
 use Rattle.xs_log.proofs.logs.recover.Goals as goal
 
 pub returns-in-Ok-clause-ok : goal.returns-in-Ok-clause-ok

@@ -6,8 +6,8 @@ use Rattle.xs_script.specs.ScriptRun.{ScriptIsAfter}
 use Rattle.xs_script.proofs.run.drive.Given as goal
 
 -- these bytes were read, and these were written
-abbrev pub invariant-turns : goal.invariant-turns
-invariant-turns g l = record {
+abbrev pub invariant-steps : goal.invariant-steps
+invariant-steps g l = record {
   read : List ℕ;
   sent : List ℕ;
   consumes : Consumes (g.R.Source.rest l.initial.reader) (g.R.Source.rest l.reader) read;
@@ -16,5 +16,5 @@ invariant-turns g l = record {
   counted : counter_at (g.R.Source.calls l.reader + l.left) ≡ counter_at (g.R.Source.calls l.initial.reader + reads_limit);
 }
 
-abbrev pub decreases-turns : goal.decreases-turns
-decreases-turns g l = l.left * 65537 + length l.script.held
+abbrev pub decreases-steps : goal.decreases-steps
+decreases-steps g l = l.left * 65537 + length l.script.held

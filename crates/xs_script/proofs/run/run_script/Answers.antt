@@ -1,6 +1,6 @@
 use Rattle.std.proofs.Common.{[], refl, sym}
 use Rattle.xs_keys.proofs.Contents.{content-none}
-use Rattle.xs_script.proofs.ScriptTurns.{few-none}
+use Rattle.xs_script.proofs.ScriptSteps.{few-none}
 use Rattle.xs_script.proofs.run.run_script.Goals as goal
 
 pub drive-requires : goal.drive-requires

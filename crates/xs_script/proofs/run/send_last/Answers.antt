@@ -1,5 +1,5 @@
 use Rattle.std.proofs.Common.{take, inl, inr}
-use Rattle.xs_script.proofs.ScriptTurns.{ends-broken}
+use Rattle.xs_script.proofs.ScriptSteps.{ends-broken}
 use Rattle.xs_script.proofs.run.send_last.Goals as goal
 
 pub returns-in-Ok : goal.returns-in-Ok

@@ -1,7 +1,7 @@
 use Rattle.std.proofs.Common.{[], take, length, inr, ap, arith}
 use Rattle.std.proofs.lemmas.List.{append-nil}
 use Rattle.xs_io.proofs.Passing.{Appends-nil}
-use Rattle.xs_script.proofs.ScriptTurns.{after-written, stands-broken}
+use Rattle.xs_script.proofs.ScriptSteps.{after-written, stands-broken}
 use Rattle.xs_script.proofs.run.send_on.Goals as goal
 
 pub returns-then-len-lt-WRITE_BYTES-clause-sends : goal.returns-then-len-lt-WRITE_BYTES-clause-sends

@@ -7,7 +7,7 @@ use Rattle.xs_log.specs.SnapshotPieces.{HasPieces}
 use Rattle.xs_log.specs.SnapshotReading.{HasRead}
 use Rattle.xs_log.proofs.SnapshotLaws.{file_is, file_has}
 use Rattle.xs_snapshot.specs.Building.{pieces_so_far}
-use Rattle.xs_snapshot.proofs.PiecesInTurn.{first-read, all-read, same-pieces}
+use Rattle.xs_snapshot.proofs.PiecesInOrder.{first-read, all-read, same-pieces}
 use Rattle.xs_snapshot.proofs.RestorableContents.{restorable-fits}
 use Rattle.xs_snapshot.proofs.reading.read_snapshot.Goals as goal
 

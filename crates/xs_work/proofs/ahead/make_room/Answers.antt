@@ -1,7 +1,7 @@
 use Rattle.std.proofs.Common.{[]}
 use Rattle.xs_io.proofs.Passing.{Appends-nil}
 use Rattle.xs_work.specs.Ahead.{IsAheadAfter}
-use Rattle.xs_work.proofs.AheadTurns.{sent-none}
+use Rattle.xs_work.proofs.AheadSteps.{sent-none}
 use Rattle.xs_work.proofs.ahead.make_room.Goals as goal
 
 pub returns-then-gather_answers-clause-after : goal.returns-then-gather_answers-clause-after

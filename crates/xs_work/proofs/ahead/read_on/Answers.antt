@@ -5,7 +5,7 @@ use Rattle.xs_resp.specs.LeftToWrite.{bytes_left}
 use Rattle.xs_session.specs.declared.session.Session.{Session}
 use Rattle.xs_session.specs.Session.{SessionIsAfter, Waits}
 use Rattle.xs_work.specs.Ahead.{IsDone}
-use Rattle.xs_work.proofs.AheadTurns.{end-waits}
+use Rattle.xs_work.proofs.AheadSteps.{end-waits}
 use Rattle.xs_work.proofs.ahead.read_on.Goals as goal
 
 pub returns-in-Ok-eq0-clause-reads : goal.returns-in-Ok-eq0-clause-reads

@@ -1,4 +1,4 @@
-use Rattle.xs_work.proofs.AheadTurns.{gives-up, lost-is}
+use Rattle.xs_work.proofs.AheadSteps.{gives-up, lost-is}
 use Rattle.xs_work.proofs.ahead.send_before.Goals as goal
 
 pub returns-in-Ok-clause-after : goal.returns-in-Ok-clause-after

@@ -4,7 +4,7 @@ use Rattle.xs_resp.specs.LeftToWrite.{bytes_left}
 use Rattle.xs_session.specs.declared.session.Session.{Session}
 use Rattle.xs_session.specs.Places.{has_open, NoneReady}
 use Rattle.xs_session.proofs.Tests.{none-behind}
-use Rattle.xs_work.proofs.AheadTurns.{breaks-later}
+use Rattle.xs_work.proofs.AheadSteps.{breaks-later}
 use Rattle.xs_work.proofs.ahead.send_ready.Goals as goal
 
 pub answers-init : goal.answers-init
@@ -23,7 +23,7 @@ pub answers-preserved : goal.answers-preserved
 answers-preserved g c =
     let inv = c.answers.invariant in
     let begun = c.gather_answers-in-answers.ensures in
-    let again = c.in-Ok-send_owed.ensures in
+    let again = c.in-Ok-send_unsent.ensures in
     record {
       sends = λ manner read asked got sent s.
           let (went, appends, after) = inv.sends manner read asked got sent s in
@@ -44,11 +44,11 @@ pub returns-in-Err-clause-sends : goal.returns-in-Err-clause-sends
 returns-in-Err-clause-sends g c = λ manner read asked got sent s.
     c.in-Err.ensures.sends manner read asked got sent (c.gather_answers.ensures.after manner read asked got sent s)
 
-pub returns-in-Err-send_owed-clause-sends : goal.returns-in-Err-send_owed-clause-sends
-returns-in-Err-send_owed-clause-sends g c = λ manner read asked got sent s.
+pub returns-in-Err-send_unsent-clause-sends : goal.returns-in-Err-send_unsent-clause-sends
+returns-in-Err-send_unsent-clause-sends g c = λ manner read asked got sent s.
     let (went, appends, after) = c.answers.invariant.sends manner read asked got sent s in
-    let (more, also, breaks) = c.in-Err-send_owed.ensures.sends manner read asked got (sent ++ went) (c.gather_answers-in-answers.ensures.after manner read asked got (sent ++ went) after) in
-    (went ++ more, Appends-trans _ _ _ went more appends also, breaks-later manner read asked got sent went more c.send_owed-in-answers.new.session breaks)
+    let (more, also, breaks) = c.in-Err-send_unsent.ensures.sends manner read asked got (sent ++ went) (c.gather_answers-in-answers.ensures.after manner read asked got (sent ++ went) after) in
+    (went ++ more, Appends-trans _ _ _ went more appends also, breaks-later manner read asked got sent went more c.send_unsent-in-answers.new.session breaks)
 
 pub returns-clause-none : goal.returns-clause-none
 returns-clause-none g c =

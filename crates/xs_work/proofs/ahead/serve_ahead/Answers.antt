@@ -1,6 +1,6 @@
 use Rattle.std.proofs.Common.{[], ◌++◌}
 use Rattle.xs_io.proofs.Passing.{Consumes-nil, Appends-nil, Consumes-trans, Appends-trans}
-use Rattle.xs_session.proofs.SessionTurns.{session-new}
+use Rattle.xs_session.proofs.SessionSteps.{session-new}
 use Rattle.xs_work.proofs.AheadCalls.{calls-none}
 use Rattle.xs_work.proofs.ahead.serve_ahead.Goals as goal
 

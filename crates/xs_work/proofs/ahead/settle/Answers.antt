@@ -1,6 +1,6 @@
 use Rattle.std.proofs.Common.{[], ◌++◌}
 use Rattle.xs_io.proofs.Passing.{Appends-nil}
-use Rattle.xs_work.proofs.AheadTurns.{sent-none, fails-gone}
+use Rattle.xs_work.proofs.AheadSteps.{sent-none, fails-gone}
 use Rattle.xs_work.proofs.ahead.settle.Goals as goal
 
 pub returns-then-take_answer-clause-after : goal.returns-then-take_answer-clause-after

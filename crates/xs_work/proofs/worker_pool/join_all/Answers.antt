@@ -6,7 +6,7 @@ use Rattle.xs_desk.specs.Callers.{Caller}
 use Rattle.xs_desk.specs.KeptRings.{KeepSides}
 use Rattle.xs_work.specs.Gates.{GateTrace}
 use Rattle.xs_work.specs.Workers.{WorkEach}
-use Rattle.xs_work.proofs.WorkerEnds.{sides-none, sides-more, work-none, joined-more, none-told, one-told, all-told}
+use Rattle.xs_work.proofs.WorkerEnds.{sides-none, sides-more, work-none, joined-more, none-mapped, one-mapped, all-mapped}
 use Rattle.xs_work.proofs.worker_pool.join_all.Goals as goal
 
 pub loop-one-preserved : goal.loop-one-preserved
@@ -37,8 +37,8 @@ loop-one-preserved g c =
       work =
           joined-more trace c.loop-one.outcome c.join-worked.result.outcome c.and-outcome.result before.done ends c.push.new.self.items before.before gates c.push-in-loop-one.new.self.items client end first gate
           before.done_count before.before_count before.gates_count pushed kept c.and-outcome.ensures before.work c.join-worked.ensures.1;
-      done_are = one-told _ before.done one _ _ _ before.done_are rest;
-      before_are = one-told _ before.before one _ _ _ before.before_are rest;
+      done_are = one-mapped _ before.done one _ _ _ before.done_are rest;
+      before_are = one-mapped _ before.before one _ _ _ before.before_are rest;
     }
 
 pub loop-one-init : goal.loop-one-init
@@ -61,8 +61,8 @@ loop-one-init g c =
       work =
           subst (λ (ends : List Caller). WorkEach false [] ends [] (map trace c.args.gates.now.items)) (sym none)
           (subst (λ (now : List GateTrace). WorkEach false [] [] [] now) (sym (ap (map trace) none-there)) work-none);
-      done_are = none-told _ _ _ all;
-      before_are = none-told _ _ _ all;
+      done_are = none-mapped _ _ _ all;
+      before_are = none-mapped _ _ _ all;
     }
 
 pub returns-clause-work : goal.returns-clause-work
@@ -70,7 +70,7 @@ returns-clause-work g c =
     let inv = c.loop-one.invariant in
     let trace = g.G.Gate.trace in
     let none : into_iter_items c.loop-one.one-iterator ≡ [] = nil_from_length _ (sym inv.len ∙ c.in-None.ensures.steps.0) in
-    let done = all-told _ inv.done _ _ inv.done_are none in
-    let before = all-told _ inv.before _ _ inv.before_are none in
+    let done = all-mapped _ inv.done _ _ inv.done_are none in
+    let before = all-mapped _ inv.before _ _ inv.before_are none in
     subst (λ (firsts : List Caller). WorkEach (is_err c.loop-one.outcome) firsts c.loop-one.ended.items (map (λ s. trace s.promise.1.value) c.args.started.items) (map trace c.loop-one.gates.items)) done
     (subst (λ (gs : List GateTrace). WorkEach (is_err c.loop-one.outcome) inv.done c.loop-one.ended.items gs (map trace c.loop-one.gates.items)) before inv.work)

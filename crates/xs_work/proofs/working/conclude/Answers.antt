@@ -6,10 +6,10 @@ pub returns-in-Ok-outcome-clause-closed : goal.returns-in-Ok-outcome-clause-clos
 returns-in-Ok-outcome-clause-closed g c = λ before count served.
     let done = c.args.done in
     let told = c.in-Ok.ensures in
-    closed-desk _ done.keeper done.ended.items before (map g.G.Gate.trace done.gates.items) c.in-Ok.summary c.requires.ends told.lanes told.history count (rw c.in-Ok-outcome.is at served)
+    closed-desk _ done.keeper done.ended.items before (map g.G.Gate.trace done.gates.items) c.in-Ok.summary c.requires.ends told.lanes told.calls count (rw c.in-Ok-outcome.is at served)
 
 pub returns-in-Err-clause-stopped : goal.returns-in-Err-clause-stopped
 returns-in-Err-clause-stopped g c = λ before count served.
     let done = c.args.done in
     let told = c.in-Ok.ensures in
-    closed-desk _ done.keeper done.ended.items before (map g.G.Gate.trace done.gates.items) c.in-Ok.summary c.requires.ends told.lanes told.history count (rw c.in-Err.is at served)
+    closed-desk _ done.keeper done.ended.items before (map g.G.Gate.trace done.gates.items) c.in-Ok.summary c.requires.ends told.lanes told.calls count (rw c.in-Err.is at served)

@@ -48,6 +48,6 @@ returns g c =
     record {
       closed = c.conclude.ensures.closed (map trace c.args.gates.items) count served;
       stopped = c.conclude.ensures.stopped (map trace c.args.gates.items) count served;
-      told = search rules;
+      reported = search rules;
       fault = search rules;
     }

@@ -1,6 +1,6 @@
 use Rattle.std.proofs.Common.{subst}
 use Rattle.xs_keys.specs.KeysRoom.{IsRoomOf}
-use Rattle.xs_desk.specs.History.{Desk}
+use Rattle.xs_desk.specs.ServedCalls.{Desk}
 use Rattle.xs_desk.proofs.keeper.Keeper.bytes_held.Goals as goal
 
 pub returns : goal.returns

@@ -3,11 +3,11 @@ use Rattle.std.proofs.lemmas.List.{length-take-le}
 use Rattle.xs_script.specs.Cause.{itself}
 use Rattle.xs_script.specs.Line.{line_limit}
 use Rattle.xs_script.proofs.ScriptLines.{in-hand-last}
-use Rattle.xs_script.proofs.ScriptTurns.{all-said, ends-memory, ends-wrong, in-hand, line-long, stands-more}
+use Rattle.xs_script.proofs.ScriptSteps.{all-said, ends-memory, ends-wrong, in-hand, line-long, stands-more}
 use Rattle.xs_script.proofs.state.Script.advance.Goals as goal
 
-pub returns-then-bytes-gt-LINE_LIMIT-clause-turns : goal.returns-then-bytes-gt-LINE_LIMIT-clause-turns
-returns-then-bytes-gt-LINE_LIMIT-clause-turns c = λ read sent s.
+pub returns-then-bytes-gt-LINE_LIMIT-clause-after : goal.returns-then-bytes-gt-LINE_LIMIT-clause-after
+returns-then-bytes-gt-LINE_LIMIT-clause-after c = λ read sent s.
     let script = c.args.self.now in
     let same = c.line_end.ensures.same in
     let none = rw (same) at c.in_default.ensures.found in
@@ -15,8 +15,8 @@ returns-then-bytes-gt-LINE_LIMIT-clause-turns c = λ read sent s.
     rw (c.line_error.ensures) (ends-wrong read sent script.owed.items s.lines script.written (all-said read sent script c.args.keyspace.now s) s.written itself script.number script.held []
     (in-hand-last read s.lines script.held s.is_read none) (λ rest ended met. inr (inr long)) (line-long script.held long) s.number)
 
-pub returns-then-at-gt-LINE_LIMIT-clause-turns : goal.returns-then-at-gt-LINE_LIMIT-clause-turns
-returns-then-at-gt-LINE_LIMIT-clause-turns c = λ read sent s.
+pub returns-then-at-gt-LINE_LIMIT-clause-after : goal.returns-then-at-gt-LINE_LIMIT-clause-after
+returns-then-at-gt-LINE_LIMIT-clause-after c = λ read sent s.
     let script = c.args.self.now in
     let held = c.line_end.new.self in
     let at = c.in-Some.at in
@@ -27,8 +27,8 @@ returns-then-at-gt-LINE_LIMIT-clause-turns c = λ read sent s.
     rw (c.line_error-then-at-gt-LINE_LIMIT.ensures) (ends-wrong read sent script.owed.items s.lines script.written (all-said read sent script c.args.keyspace.now s) s.written itself script.number line (10 ∷ drop (at + 1) held)
     (in-hand read s.lines script.held line (10 ∷ drop (at + 1) held) s.is_read (sym c.line_end.ensures.same ∙ found.2) found.1) (λ rest ended met. inl (drop (at + 1) held, refl)) (line-long line long) s.number)
 
-pub returns-in-Err-NoLine-clause-turns : goal.returns-in-Err-NoLine-clause-turns
-returns-in-Err-NoLine-clause-turns c = λ read sent s.
+pub returns-in-Err-NoLine-clause-after : goal.returns-in-Err-NoLine-clause-after
+returns-in-Err-NoLine-clause-after c = λ read sent s.
     let script = c.args.self.now in
     let held = c.line_end.new.self in
     let at = c.in-Some.at in
@@ -38,8 +38,8 @@ returns-in-Err-NoLine-clause-turns c = λ read sent s.
     rw (c.line_error-in-Err-NoLine.ensures, c.in-Err-NoLine.ensures.err) (ends-wrong read sent script.owed.items s.lines script.written (all-said read sent script c.args.keyspace.now s) s.written itself script.number line (10 ∷ drop (at + 1) held)
     (in-hand read s.lines script.held line (10 ∷ drop (at + 1) held) s.is_read (sym c.line_end.ensures.same ∙ found.2) found.1) (λ rest ended met. inl (drop (at + 1) held, refl)) wrong s.number)
 
-pub returns-in-Err-Memory-clause-turns : goal.returns-in-Err-Memory-clause-turns
-returns-in-Err-Memory-clause-turns c = λ read sent s.
+pub returns-in-Err-Memory-clause-after : goal.returns-in-Err-Memory-clause-after
+returns-in-Err-Memory-clause-after c = λ read sent s.
     let script = c.args.self.now in
     let held = c.line_end.new.self in
     let at = c.in-Some.at in
@@ -49,8 +49,8 @@ returns-in-Err-Memory-clause-turns c = λ read sent s.
     rw (c.out_of_memory.ensures, c.in-Err-Memory.ensures.err) (ends-memory read sent script.owed.items s.lines script.written (all-said read sent script c.args.keyspace.now s) s.written itself (take at held) (10 ∷ drop (at + 1) held)
     (in-hand read s.lines script.held (take at held) (10 ∷ drop (at + 1) held) s.is_read split found.1) (omega (arith, few)))
 
-pub returns-clause-turns : goal.returns-clause-turns
-returns-clause-turns c = λ read sent s.
+pub returns-clause-after : goal.returns-clause-after
+returns-clause-after c = λ read sent s.
     let script = c.args.self.now in
     let held = c.line_end.new.self in
     let at = c.in-Some.at in

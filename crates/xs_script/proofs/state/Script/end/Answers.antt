@@ -2,7 +2,7 @@ use Rattle.std.proofs.Common.{◌==◌, [], ◌∷◌, ◌++◌, length, Err, in
 use Rattle.xs_script.specs.Cause.{input}
 use Rattle.xs_script.proofs.Emptiness.{empty-none, empty-some}
 use Rattle.xs_script.proofs.ScriptLines.{in-hand-last}
-use Rattle.xs_script.proofs.ScriptTurns.{all-said, ends-memory, ends-well, ends-wrong, last-answered, none-left}
+use Rattle.xs_script.proofs.ScriptSteps.{all-said, ends-memory, ends-well, ends-wrong, last-answered, none-left}
 use Rattle.xs_script.proofs.state.Script.end.Goals as goal
 
 pub returns-then-is_empty : goal.returns-then-is_empty

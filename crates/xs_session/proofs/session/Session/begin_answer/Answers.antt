@@ -1,5 +1,5 @@
 use Rattle.xs_resp.specs.LeftToWrite.{bytes_left}
-use Rattle.xs_session.proofs.SessionTurns.{after-begun}
+use Rattle.xs_session.proofs.SessionSteps.{after-begun}
 use Rattle.xs_session.proofs.session.Session.begin_answer.Goals as goal
 
 pub returns-then-not-is_gathered-clause-last : goal.returns-then-not-is_gathered-clause-last

@@ -3,7 +3,7 @@ use Rattle.xs_session.specs.declared.places.Place.{Place}
 use Rattle.xs_resp.specs.LeftToWrite.{bytes_left}
 use Rattle.xs_session.specs.Session.{IsAfter}
 use Rattle.xs_session.proofs.OpenCommands.{open-fewer}
-use Rattle.xs_session.proofs.SessionTurns.{after-answered}
+use Rattle.xs_session.proofs.SessionSteps.{after-answered}
 use Rattle.xs_session.proofs.session.Session.hand_in.Goals as goal
 
 pub returns-clause-after : goal.returns-clause-after

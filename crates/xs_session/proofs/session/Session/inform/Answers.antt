@@ -5,11 +5,11 @@ use Rattle.xs_session.specs.declared.places.Place.TheVariants.{AwaitsKeys}
 use Rattle.xs_session.specs.declared.session.Session.{Session}
 use Rattle.xs_session.specs.Answers.{Informs, IsTaken}
 use Rattle.xs_session.specs.Session.{SessionIsAfter, AsksOrWaits}
-use Rattle.xs_session.proofs.SessionTurns.{session-asked, session-says}
+use Rattle.xs_session.proofs.SessionSteps.{session-asked, session-says}
 use Rattle.xs_session.proofs.session.Session.inform.Goals as goal
 
-pub returns-then-take_call-clause-turns : goal.returns-then-take_call-clause-turns
-returns-then-take_call-clause-turns g c = λ read asked got sent s.
+pub returns-then-take_call-clause-after : goal.returns-then-take_call-clause-after
+returns-then-take_call-clause-after g c = λ read asked got sent s.
     let manner = c.args.manner.now in
     let words = c.front-words.result in
     let now = c.take_info.new.standing in
@@ -25,8 +25,8 @@ returns-then-take_call-clause-turns g c = λ read asked got sent s.
     (subst (λ goes. AsksOrWaits session command place goes c.take_call.new.self) c.if-take_call.true c.take_call.ensures.asks)
     (subst (λ (o : Standing). SessionIsAfter manner read asked got sent (record c.args.self.now { standing = o })) (sym taken.1) s)
 
-pub returns-else-take_call-clause-turns : goal.returns-else-take_call-clause-turns
-returns-else-take_call-clause-turns g c = λ read asked got sent s.
+pub returns-else-take_call-clause-after : goal.returns-else-take_call-clause-after
+returns-else-take_call-clause-after g c = λ read asked got sent s.
     let manner = c.args.manner.now in
     let words = c.front-words.result in
     let now = c.take_info.new.standing in
@@ -42,7 +42,7 @@ returns-else-take_call-clause-turns g c = λ read asked got sent s.
     (subst (λ goes. AsksOrWaits session command place goes c.take_call.new.self) c.if-take_call.false c.take_call.ensures.asks)
     (subst (λ (o : Standing). SessionIsAfter manner read asked got sent (record c.args.self.now { standing = o })) (sym taken.1) s)
 
-pub returns-in-Err-clause-turns : goal.returns-in-Err-clause-turns
-returns-in-Err-clause-turns g c = λ read asked got sent s.
+pub returns-in-Err-clause-after : goal.returns-in-Err-clause-after
+returns-in-Err-clause-after g c = λ read asked got sent s.
     session-says c.args.manner.now read asked got sent c.args.self.now c.say.new.self c.take_info.new.standing c.in-Err.reply c.say.result c.front-words.result c.requires.going c.front-words.ensures c.requires.nothing
     (subst (λ w. 0 < length w) (sym c.front-words.ensures) c.requires.some) c.in-Err.ensures.taken c.say.ensures.skips c.say.ensures.goes c.say.ensures.after s

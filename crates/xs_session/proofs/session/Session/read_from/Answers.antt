@@ -1,5 +1,5 @@
 use Rattle.xs_resp.specs.LeftToWrite.{bytes_left}
-use Rattle.xs_session.proofs.SessionTurns.{after-read}
+use Rattle.xs_session.proofs.SessionSteps.{after-read}
 use Rattle.xs_session.proofs.Tests.{gave-more}
 use Rattle.xs_session.proofs.session.Session.read_from.Goals as goal
 

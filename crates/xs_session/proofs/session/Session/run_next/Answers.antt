@@ -4,19 +4,19 @@ use Rattle.xs_connection.specs.declared.transaction.Transaction.{Transaction}
 use Rattle.xs_connection.specs.declared.transaction.Transaction.TheVariants.{Released}
 use Rattle.xs_session.specs.declared.session.Session.{Session}
 use Rattle.xs_session.specs.Answers.{Says, IsRun}
-use Rattle.xs_session.proofs.SessionTurns.{session-released, session-run-says}
+use Rattle.xs_session.proofs.SessionSteps.{session-released, session-run-says}
 use Rattle.xs_session.proofs.session.Session.run_next.Goals as goal
 
-pub returns-in-Ok-clause-turns : goal.returns-in-Ok-clause-turns
-returns-in-Ok-clause-turns c = λ manner read asked got sent s.
+pub returns-in-Ok-clause-after : goal.returns-in-Ok-clause-after
+returns-in-Ok-clause-after c = λ manner read asked got sent s.
     let session : Session = record c.args.self.now { reserve = c.command_of_released-said.new.reserve } in
     session-released manner read asked got sent session c.ask_released.new.self c.in-Ok.command c.ask_released.result c.requires.going c.requires.several c.ask_released.ensures.owed c.ask_released.ensures.asks s
 
 first-same : (a b : List (List ℕ)) (xs ys : List (List (List ℕ))) → Released (a ∷ xs) ≡ Released (b ∷ ys) → a ≡ b
 first-same a b xs ys is = cc
 
-pub returns-in-Err-clause-turns : goal.returns-in-Err-clause-turns
-returns-in-Err-clause-turns c = λ manner read asked got sent s.
+pub returns-in-Err-clause-after : goal.returns-in-Err-clause-after
+returns-in-Err-clause-after c = λ manner read asked got sent s.
     let session = c.args.self.now in
     let taken = c.take_next.ensures in
     let front : (others : List (List (List ℕ))) × (session.standing.transaction ≡ Released (c.as_slice.result.now ∷ others)) = search rules in

@@ -7,21 +7,21 @@ use Rattle.xs_session.specs.declared.session.Session.{Session}
 use Rattle.xs_session.specs.Answers.{Asks, IsTaken}
 use Rattle.xs_session.specs.Session.{SessionIsAfter, AsksOrWaits}
 use Rattle.xs_session.proofs.OpenCommands.{open-same}
-use Rattle.xs_session.proofs.SessionTurns.{session-asked, session-says, turn-skips}
+use Rattle.xs_session.proofs.SessionSteps.{session-asked, session-says, step-skips}
 use Rattle.xs_session.proofs.Tests.{empty-none, empty-some}
 use Rattle.xs_session.proofs.session.Session.take_front.Goals as goal
 
-pub returns-then-is_empty-clause-turns : goal.returns-then-is_empty-clause-turns
-returns-then-is_empty-clause-turns g c = λ read asked got sent s.
+pub returns-then-is_empty-clause-after : goal.returns-then-is_empty-clause-after
+returns-then-is_empty-clause-after g c = λ read asked got sent s.
     let session = c.args.self.now in
     let words = c.front-words.result in (
-      turn-skips c.args.manner.now session.standing read asked got sent session.ended session.requests c.skip.new.self session.places (bytes_left session.owed) words c.requires.going s.0 c.front-words.ensures c.skip.ensures c.requires.nothing
+      step-skips c.args.manner.now session.standing read asked got sent session.ended session.requests c.skip.new.self session.places (bytes_left session.owed) words c.requires.going s.0 c.front-words.ensures c.skip.ensures c.requires.nothing
           (empty-none words c.is_empty.result c.is_empty.ensures c.if-is_empty.true),
       open-same session.alone (length got) asked s.1,
     )
 
-pub returns-then-take_call-clause-turns : goal.returns-then-take_call-clause-turns
-returns-then-take_call-clause-turns g c = λ read asked got sent s.
+pub returns-then-take_call-clause-after : goal.returns-then-take_call-clause-after
+returns-then-take_call-clause-after g c = λ read asked got sent s.
     let manner = c.args.manner.now in
     let words = c.front-words.result in
     let now = c.take_request-taken.new.standing in
@@ -36,8 +36,8 @@ returns-then-take_call-clause-turns g c = λ read asked got sent s.
     (subst (λ goes. AsksOrWaits session command Awaits goes c.take_call.new.self) c.if-take_call.true c.take_call.ensures.asks)
     (subst (λ (o : Standing). SessionIsAfter manner read asked got sent (record c.args.self.now { reserve = c.take_request-taken.new.reserve; standing = o })) (sym taken.3) s)
 
-pub returns-else-take_call-clause-turns : goal.returns-else-take_call-clause-turns
-returns-else-take_call-clause-turns g c = λ read asked got sent s.
+pub returns-else-take_call-clause-after : goal.returns-else-take_call-clause-after
+returns-else-take_call-clause-after g c = λ read asked got sent s.
     let manner = c.args.manner.now in
     let words = c.front-words.result in
     let now = c.take_request-taken.new.standing in
@@ -52,14 +52,14 @@ returns-else-take_call-clause-turns g c = λ read asked got sent s.
     (subst (λ goes. AsksOrWaits session command Awaits goes c.take_call.new.self) c.if-take_call.false c.take_call.ensures.asks)
     (subst (λ (o : Standing). SessionIsAfter manner read asked got sent (record c.args.self.now { reserve = c.take_request-taken.new.reserve; standing = o })) (sym taken.3) s)
 
-pub returns-in-Says-clause-turns : goal.returns-in-Says-clause-turns
-returns-in-Says-clause-turns g c = λ read asked got sent s.
+pub returns-in-Says-clause-after : goal.returns-in-Says-clause-after
+returns-in-Says-clause-after g c = λ read asked got sent s.
     let words = c.front-words.result in
     let session : Session = record c.args.self.now { reserve = c.take_request-taken.new.reserve } in
     session-says c.args.manner.now read asked got sent session c.say.new.self c.take_request-taken.new.standing c.in-Says.reply c.say.result words c.requires.going c.front-words.ensures c.requires.nothing
     (empty-some words c.is_empty.result c.is_empty.ensures c.if-is_empty.false) c.in-Says.ensures.taken c.say.ensures.skips c.say.ensures.goes c.say.ensures.after s
 
-pub returns-in-Info-clause-turns : goal.returns-in-Info-clause-turns
-returns-in-Info-clause-turns g c = λ read asked got sent s.
-    c.inform.ensures.turns read asked got sent
+pub returns-in-Info-clause-after : goal.returns-in-Info-clause-after
+returns-in-Info-clause-after g c = λ read asked got sent s.
+    c.inform.ensures.after read asked got sent
     (subst (λ (o : Standing). SessionIsAfter c.args.manner.now read asked got sent (record c.args.self.now { reserve = c.take_request-taken.new.reserve; standing = o })) (sym c.in-Info.ensures.taken.1) s)

@@ -1,7 +1,7 @@
 -- If memory was refused both arguments came back, so the ends are still those of the desk.
 use Rattle.std.specs.Prelude.{List}
 use Rattle.std.proofs.Common.{sym, subst}
-use Rattle.xs_desk.specs.History.{Desk}
+use Rattle.xs_desk.specs.ServedCalls.{Desk}
 use Rattle.xs_desk.specs.Callers.{Caller, AreEndsOfLanes}
 use Rattle.xs_testing.proofs.trial.Trial.close.Goals as goal
 

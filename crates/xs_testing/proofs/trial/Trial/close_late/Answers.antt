@@ -1,7 +1,7 @@
 -- The last end is one of the desk's, and so are the last two.
 use Rattle.std.specs.Prelude.{◌≡◌, List, [], ◌∷◌, ◌++◌, refl}
 use Rattle.std.proofs.Common.{sym, subst}
-use Rattle.xs_desk.specs.History.{LaneOf, Desk}
+use Rattle.xs_desk.specs.ServedCalls.{LaneOf, Desk}
 use Rattle.xs_desk.specs.Callers.{Caller, AreEndsOfLanes}
 use Rattle.xs_desk.proofs.Keeps.{ends-pop, ends-push}
 use Rattle.xs_testing.proofs.trial.Trial.close_late.Goals as goal

@@ -3,7 +3,7 @@ use Rattle.xs_keys.specs.Terms.{Reply, Int}
 use Rattle.xs_keys.specs.ReplyParts.{array}
 use Rattle.xs_keys.specs.PlayedLines.{name, id as id_told}
 use Rattle.xs_keys.proofs.Computing.{example_functions}
-use Rattle.xs_keys.proofs.examples.told_numbers.Goals as goal
+use Rattle.xs_keys.proofs.examples.reported_numbers.Goals as goal
 
 number_in : Reply → ℕ
 number_in (Int n) = n

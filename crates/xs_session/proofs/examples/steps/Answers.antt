@@ -8,7 +8,7 @@ use Rattle.xs_resp.proofs.Decisions.{request-fault, request-open}
 use Rattle.xs_session.specs.declared.ending.Ending.{Ending}
 use Rattle.xs_session.specs.Session.{Waits}
 use Rattle.xs_session.proofs.SpelledExamples.{spelled-none}
-use Rattle.xs_session.proofs.examples.turns.Goals as goal
+use Rattle.xs_session.proofs.examples.steps.Goals as goal
 
 open-of : (ended : Option Ending) (bytes : List ℕ) → Waits ended (Ok bytes) → IsOpen bytes
 open-of ended bytes (none, (others, is, opens)) = let same : others ≡ bytes = cc in subst IsOpen same opens

@@ -9,7 +9,7 @@ use Rattle.xs_keys.specs.PlayedLines.{id as id_told, entry}
 use Rattle.xs_keys.specs.ExamplesReplies.{second, read_by_a}
 use Rattle.xs_keys.proofs.Computing.{example_functions}
 use Rattle.xs_keys.proofs.Assigning.{assigned-claim, assigned-scan}
-use Rattle.xs_keys.proofs.examples.told_claims.Goals as goal
+use Rattle.xs_keys.proofs.examples.reported_claims.Goals as goal
 
 -- the number of items of a reply
 count_of : Reply → ℕ

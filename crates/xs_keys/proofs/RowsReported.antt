@@ -142,8 +142,8 @@ module _ (asked : PendingRowsCommand) (now : ℕ) (life : GroupLife) (asc : Asce
       let touched = is-last-touched life.start life.events e.0 e.1 are.0 in
       ((e.1.consumer, owner-of e.0 e.1 are.0, rw (sym touched.0, sym touched.1) refl), tells-rows es are.1)
 
-  pub rows-told : TellsRows asked now life (array (map row_reply (take asked.limit (map (pending_row now) (filter test all)))))
-  rows-told = (
+  pub rows-reported : TellsRows asked now life (array (map row_reply (take asked.limit (map (pending_row now) (filter test all)))))
+  rows-reported = (
     take asked.limit (map (λ e. e.0) (filter test all)),
     map (λ e. row_reply (pending_row now e)) (take asked.limit (filter test all)),
     ap (λ told. array (map row_reply told)) (take-map (pending_row now) asked.limit (filter test all)) ∙ ap array (map-twice (pending_row now) row_reply (take asked.limit (filter test all))),

@@ -15,7 +15,7 @@ use Rattle.xs_keys.specs.ExamplesReplies.{second, two_groups, read_by_a, with_a_
 use Rattle.xs_stream.specs.Examples.{at}
 use Rattle.xs_keys.proofs.Computing.{example_functions}
 use Rattle.xs_keys.proofs.Tellings.{shows-first}
-use Rattle.xs_keys.proofs.examples.told_reads.Goals as goal
+use Rattle.xs_keys.proofs.examples.reported_reads.Goals as goal
 
 -- distinguishes the null array from any other reply
 kind : Reply → ℕ

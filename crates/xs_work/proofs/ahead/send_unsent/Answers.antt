@@ -3,8 +3,8 @@ use Rattle.std.proofs.lemmas.List.{append-nil, take-append-drop}
 use Rattle.xs_io.proofs.Passing.{Appends-nil, Appends-trans}
 use Rattle.xs_resp.specs.LeftToWrite.{bytes_left}
 use Rattle.xs_session.proofs.Tests.{empty-none, empty-some}
-use Rattle.xs_work.proofs.AheadTurns.{part-sent}
-use Rattle.xs_work.proofs.ahead.send_owed.Goals as goal
+use Rattle.xs_work.proofs.AheadSteps.{part-sent}
+use Rattle.xs_work.proofs.ahead.send_unsent.Goals as goal
 
 pub pieces-init : goal.pieces-init
 pieces-init g c = record {

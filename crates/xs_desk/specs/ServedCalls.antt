@@ -1,4 +1,4 @@
--- The history of a desk: the calls that its keeper served, each with its answer, in the order of their places.
+-- The calls of a desk: those that its keeper served, each with its answer, in the order of their places.
 use Rattle.std.specs.Prelude.{◌≡◌, ℕ, ◌<◌, ◌==◌, List, map, filter, length, slice_get, Some, All}
 use Rattle.std.specs.declared.alloc.Global.{Global}
 use Rattle.rtrb.specs.Shared.{Names}
@@ -40,7 +40,7 @@ pub record Desk : Type 0 where
 
 -- the calls of lane k
 abbrev pub of_lane : ℕ → List ServedCall → List ServedCall
-of_lane k history = filter (λ call. call.lane == k) history
+of_lane k calls = filter (λ call. call.lane == k) calls
 
 abbrev pub commands_of : List ServedCall → List Command
 commands_of calls = map (λ call. call.command) calls
@@ -60,14 +60,14 @@ abbrev pub CountUp : List ℕ → Type 0
 CountUp numbers = (i n : ℕ) → slice_get numbers i ≡ Some n → n ≡ i
 
 -- The places are 0, 1, 2, .. over the whole desk, and the tickets are 0, 1, 2, .. in each lane. What was taken from a
--- lane and sent to it are its calls in the history, in their order. Each command is well formed. The calls at their
+-- lane and sent to it are its calls, in their order. Each command is well formed. The calls at their
 -- moments are a run from the content at the start, which gave these replies and left the present content.
-pub record IsHistory (history : List ServedCall) (desk : Desk) : Type 0 where
-  pub places : CountUp (map (λ call. call.answer.place) history)
-  pub tickets : (k : ℕ) → CountUp (map (λ call. call.answer.ticket) (of_lane k history))
+pub record AreCallsOf (calls : List ServedCall) (desk : Desk) : Type 0 where
+  pub places : CountUp (map (λ call. call.answer.place) calls)
+  pub tickets : (k : ℕ) → CountUp (map (λ call. call.answer.ticket) (of_lane k calls))
   pub lanes : (k : ℕ) (lane : LaneOf) → slice_get desk.lanes k ≡ Some lane
-      → (lane.popped ≡ commands_of (of_lane k history)) × (lane.sent ≡ answers_of (of_lane k history))
-  pub within : All (λ call. call.lane < length desk.lanes) history
-  pub formed : All (λ call. IsWellFormed call.command) history
-  pub next : desk.place ≡ length history
-  pub runs : RunsOn desk.start (events_of history) (replies_of history) desk.keyspace
+      → (lane.popped ≡ commands_of (of_lane k calls)) × (lane.sent ≡ answers_of (of_lane k calls))
+  pub within : All (λ call. call.lane < length desk.lanes) calls
+  pub formed : All (λ call. IsWellFormed call.command) calls
+  pub next : desk.place ≡ length calls
+  pub runs : RunsOn desk.start (events_of calls) (replies_of calls) desk.keyspace

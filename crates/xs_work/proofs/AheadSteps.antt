@@ -3,7 +3,7 @@ use Rattle.std.proofs.Common.{◌≡◌, ◌⊎◌, inl, inr, ℕ, ◌<◌, ◌�
 use Rattle.std.specs.Prelude.{IfErr, MatchResult}
 use Rattle.std.proofs.Common.{append_assoc, arith, take, drop, length-drop, length-append}
 use Rattle.std.proofs.lemmas.List.{append-nil, take-append-drop}
-use Rattle.xs_io.specs.Passing.{Passing}
+use Rattle.xs_io.specs.DeviceState.{ReaderState, WriterState}
 use Rattle.xs_resp.specs.declared.reply.Reply.{Reply}
 use Rattle.xs_resp.specs.Grammar.{IsOpen}
 use Rattle.xs_resp.specs.HeldBytes.{Held, holds_bytes}
@@ -18,7 +18,7 @@ use Rattle.xs_session.specs.declared.session.Session.{Session}
 use Rattle.xs_session.specs.declared.places.Place.{Place}
 use Rattle.xs_session.specs.Places.{has_open}
 use Rattle.xs_session.specs.Session.{IsAfter, SessionIsAfter, Goes, Waits}
-use Rattle.xs_session.proofs.SessionTurns.{after-sent, after-even}
+use Rattle.xs_session.proofs.SessionSteps.{after-sent, after-even}
 use Rattle.xs_work.specs.declared.ahead.AheadFault.{AheadFault}
 use Rattle.xs_work.specs.declared.ahead.AheadFault.TheVariants as fault
 use Rattle.xs_work.specs.Ahead.{Calls, IsAheadAfter, BreaksOff, IsLost, HasCauseOf, AheadEnds, AheadFails, ServesAhead, IsDone}
@@ -36,7 +36,7 @@ part-sent manner read asked got sent before session count few s =
       rest = drop count piece ++ behind;
       more_is = refl;
       after = s;
-      owed_is = ap (λ p. p ++ behind) (sym (take-append-drop count piece)) ∙ append_assoc (take count piece) (drop count piece) behind;
+      unsent_is = ap (λ p. p ++ behind) (sym (take-append-drop count piece)) ∙ append_assoc (take count piece) (drop count piece) behind;
       some = grind (arith, length-append, some);
     }
 
@@ -49,7 +49,7 @@ breaks-later manner read asked got sent went more session b = record {
   rest = b.rest;
   more_is = ap (λ m. went ++ m) b.more_is ∙ sym (append_assoc went b.before b.part);
   after = subst (λ (o : List ℕ). SessionIsAfter manner read asked got o session) (append_assoc sent went b.before) b.after;
-  owed_is = b.owed_is;
+  unsent_is = b.unsent_is;
   some = b.some;
 }
 
@@ -75,12 +75,12 @@ module _ (first now : Caller) (manner : Manner) (read sent : List ℕ) where
   end-is standing ending.Closed ended held places owed asked got s is done = absurd (subst (λ e. Goes manner standing e s.taken s.rest held) is s.goes)
   end-is standing ending.Cut ended held places owed asked got s is done = absurd (subst (λ e. Goes manner standing e s.taken s.rest held) is s.goes)
 
-  pub end-cause : (standing : Standing) (end : Ending) (ended : Option Ending) (held : Held) (places : List Place) (owed : List ℕ) (asked : List Command) (got : List Reply) (left : Passing) (over broken unwritten : Bool) → IsAfter manner standing read asked got sent ended held places owed
-      → ended ≡ Some end → HasCauseOf (Ok end) left over broken unwritten
-  end-cause standing ending.Quit ended held places owed asked got left over broken unwritten s is = tt
-  end-cause standing ending.Protocol ended held places owed asked got left over broken unwritten s is = tt
-  end-cause standing ending.Closed ended held places owed asked got left over broken unwritten s is = absurd (subst (λ e. Goes manner standing e s.taken s.rest held) is s.goes)
-  end-cause standing ending.Cut ended held places owed asked got left over broken unwritten s is = absurd (subst (λ e. Goes manner standing e s.taken s.rest held) is s.goes)
+  pub end-cause : (standing : Standing) (end : Ending) (ended : Option Ending) (held : Held) (places : List Place) (owed : List ℕ) (asked : List Command) (got : List Reply) (input : ReaderState) (output : WriterState) → IsAfter manner standing read asked got sent ended held places owed
+      → ended ≡ Some end → HasCauseOf (Ok end) input output
+  end-cause standing ending.Quit ended held places owed asked got input output s is = tt
+  end-cause standing ending.Protocol ended held places owed asked got input output s is = tt
+  end-cause standing ending.Closed ended held places owed asked got input output s is = absurd (subst (λ e. Goes manner standing e s.taken s.rest held) is s.goes)
+  end-cause standing ending.Cut ended held places owed asked got input output s is = absurd (subst (λ e. Goes manner standing e s.taken s.rest held) is s.goes)
 
   none-open : (places : List Place) → places ≡ [] → has_open places ≡ false
   none-open places is = ap has_open is
@@ -162,7 +162,7 @@ module _ (first now : Caller) (manner : Manner) (read sent : List ℕ) where
   pub fails-none : (wrong : AheadFault) (asked put : List Command) → AheadFails wrong first now manner read asked put sent → AheadFails wrong first now manner (read ++ []) asked put sent
   fails-none wrong asked put f = subst (λ (r : List ℕ). AheadFails wrong first now manner r asked put sent) (sym (append-nil read)) f
 
-  -- a turn that asks nothing
+  -- a step that asks nothing
   pub asked-none : (asked put : List Command) (session : Session) (got : List Reply) → SessionIsAfter manner read (asked ++ []) got sent session → Calls first now put got → IsAheadAfter first now manner read asked put sent session
   asked-none asked put session got after calls =
       subst (λ (a : List Command). IsAheadAfter first now manner read a put sent session) (append-nil asked) (record { got = got; after = after; calls = calls })
@@ -198,11 +198,11 @@ module _ (first now : Caller) (manner : Manner) (read sent : List ℕ) where
   }
 
   -- the result of a read
-  pub read-so : {A : Type 0} (result : Result A (Result Ending AheadFault)) (left : Passing) (over broken unwritten : Bool) (asked : List Command) (session : Session) → IsAheadAfter first now manner read asked asked sent session → IsDone session.places (bytes_left session.owed)
-      → IfErr result (λ end. AheadEnds end session.ended session.requests session.places (bytes_left session.owed)) → IfErr result (λ end. HasCauseOf end left over broken unwritten)
-      → MatchResult result (λ _. (all : List Command) × IsAheadAfter first now manner read all all sent session) (λ end. ServesAhead end first now manner read sent × HasCauseOf end left over broken unwritten)
-  read-so (Ok x) left over broken unwritten asked session a done ends cause = (asked, a)
-  read-so (Err end) left over broken unwritten asked session a done ends cause = (serves-done end asked session a done ends, cause)
+  pub read-so : {A : Type 0} (result : Result A (Result Ending AheadFault)) (input : ReaderState) (output : WriterState) (asked : List Command) (session : Session) → IsAheadAfter first now manner read asked asked sent session → IsDone session.places (bytes_left session.owed)
+      → IfErr result (λ end. AheadEnds end session.ended session.requests session.places (bytes_left session.owed)) → IfErr result (λ end. HasCauseOf end input output)
+      → MatchResult result (λ _. (all : List Command) × IsAheadAfter first now manner read all all sent session) (λ end. ServesAhead end first now manner read sent × HasCauseOf end input output)
+  read-so (Ok x) input output asked session a done ends cause = (asked, a)
+  read-so (Err end) input output asked session a done ends cause = (serves-done end asked session a done ends, cause)
 
 -- the answers that were waited for have come after the writer failed, or the lane is gone
 pub gives-up : (first old new : Caller) (manner : Manner) (read : List ℕ) (asked put : List Command) (sent more : List ℕ) (was is : Session) (got : List Reply) (wrong : AheadFault) → BreaksOff manner read asked got sent more was → Calls first old put got
@@ -212,7 +212,7 @@ gives-up first old new manner read asked put sent more was is got wrong b calls 
   later : (got : List Reply) → SessionIsAfter manner read asked got (sent ++ b.before) is → IsAfter manner is.standing read asked got (sent ++ more) is.ended is.requests is.places b.rest
   later got s =
       subst (λ (o : List ℕ). IsAfter manner is.standing read asked got o is.ended is.requests is.places b.rest) (append_assoc sent b.before b.part ∙ ap (λ m. sent ++ m) (sym b.more_is))
-      (after-sent manner is.standing read asked got (sent ++ b.before) is.ended is.requests is.places (bytes_left is.owed) b.part b.rest s.0 (ap bytes_left same ∙ b.owed_is))
+      (after-sent manner is.standing read asked got (sent ++ b.before) is.ended is.requests is.places (bytes_left is.owed) b.part b.rest s.0 (ap bytes_left same ∙ b.unsent_is))
 
   by : IsAheadAfter first new manner read asked put (sent ++ b.before) is → ((wrong ≡ fault.Write) × (has_open is.places ≡ false) × (length is.places ≤ 32)) ⊎ (wrong ≡ fault.Port) → AheadFails wrong first new manner read asked put (sent ++ more)
   by a (inl (write, closed, few)) =
@@ -237,8 +237,8 @@ pub lost-is : {X Y : Type 0} (wrong : AheadFault) (unwritten : Bool) → ((wrong
 lost-is wrong unwritten (inl (write, x, y)) failed = subst (λ (w : AheadFault). IsLost w unwritten) (sym write) failed
 lost-is wrong unwritten (inr port) failed = subst (λ (w : AheadFault). IsLost w unwritten) (sym port) tt
 
-pub lost-cause : (wrong : AheadFault) (left : Passing) (over broken unwritten : Bool) → IsLost wrong unwritten → HasCauseOf (Err wrong) left over broken unwritten
-lost-cause fault.Write left over broken unwritten lost = lost
-lost-cause fault.Port left over broken unwritten lost = tt
-lost-cause fault.Read left over broken unwritten lost = absurd lost
-lost-cause fault.Memory left over broken unwritten lost = absurd lost
+pub lost-cause : (wrong : AheadFault) (input : ReaderState) (output : WriterState) → IsLost wrong output.broken → HasCauseOf (Err wrong) input output
+lost-cause fault.Write input output lost = lost
+lost-cause fault.Port input output lost = tt
+lost-cause fault.Read input output lost = absurd lost
+lost-cause fault.Memory input output lost = absurd lost

@@ -30,8 +30,8 @@ use Rattle.xs_session.specs.declared.places.Place.TheVariants.{Answer, Awaits}
 use Rattle.xs_session.specs.Answers.{is_stranger, Taken, Asks, Informs, Says, IsTaken, IsRun, AreTaken, MayBeOpen, asked_of, answers_to, quits, has_quit}
 use Rattle.xs_session.specs.Places.{has_open, fill_first}
 use Rattle.xs_session.specs.declared.session.Session.{Session}
-use Rattle.xs_session.specs.declared.session.Turn.{Turn}
-use Rattle.xs_session.specs.declared.session.Turn.TheVariants as turn
+use Rattle.xs_session.specs.declared.session.Next.{Next}
+use Rattle.xs_session.specs.declared.session.Next.TheVariants as next
 use Rattle.xs_desk.specs.declared.answer.Call.{Call}
 use Rattle.xs_resp.specs.LeftToWrite.{bytes_left}
 use Rattle.xs_session.specs.Session.{texts, refusal, IsFault, IsWrong, Goes, IsFirst, IsAfter, SessionIsAfter, IsGathered, AsksOrWaits, ReleasesOrWaits, asked_in, ending_of}
@@ -270,25 +270,25 @@ module _ (manner : Manner) (standing : Standing) (read : List ℕ) (asked : List
   asks-none : (next : Standing) (ended : Option Ending) (held : Held) (places : List Place) (owed : List ℕ) → IsAfter manner next read asked got sent ended held places owed → IsAfter manner next read (asked ++ []) got sent ended held places owed
   asks-none next ended held places owed s = subst (λ (a : List Command). IsAfter manner next read a got sent ended held places owed) (sym (append-nil asked)) s
 
-  -- ---- turns of a session
+  -- ---- steps of a session
 
   open-now : (ended : Option Ending) (held : Held) (places : List Place) (owed : List ℕ) → ended ≡ None → IsAfter manner standing read asked got sent ended held places owed → IsAfter manner standing read asked got sent None held places owed
   open-now ended held places owed going s = subst (λ (e : Option Ending). IsAfter manner standing read asked got sent e held places owed) going s
 
-  pub turn-asks : (next : Standing) (ended end : Option Ending) (held after : Held) (places later : List Place) (owed : List ℕ) (words : List (List ℕ)) (one : Taken) (command : Command) (place : Place) → IsAsking one command place → ended ≡ None → IsAfter manner standing read asked got sent ended held places owed
+  pub step-asks : (next : Standing) (ended end : Option Ending) (held after : Held) (places later : List Place) (owed : List ℕ) (words : List (List ℕ)) (one : Taken) (command : Command) (place : Place) → IsAsking one command place → ended ≡ None → IsAfter manner standing read asked got sent ended held places owed
       → words ≡ front_of held → Skips held after → released_of standing.transaction ≡ [] → 0 < length words → IsTaken manner standing words one next → later ≡ places ++ place ∷ [] → end ≡ ending_of command
       → IsAfter manner next read (asked ++ command ∷ []) got sent end after later owed
-  turn-asks next ended end held after places later owed words one command place asking going s are skips nothing some is more ends =
+  step-asks next ended end held after places later owed words one command place asking going s are skips nothing some is more ends =
       let s = open-now ended held places owed going s in
       let n = is-next held after s.rest words s.goes.0 are skips in
       subst (λ (e : Option Ending). IsAfter manner next read (asked ++ command ∷ []) got sent e after later owed) (sym ends)
       (subst (λ (p : List Place). IsAfter manner next read (asked ++ command ∷ []) got sent (ending_of command) after p owed) (sym more)
       (after-asks next held after places owed words one command place asking s n nothing some is))
 
-  pub turn-says : (next : Standing) (ended : Option Ending) (held after : Held) (places later : List Place) (owed : List ℕ) (words : List (List ℕ)) (reply : Reply) → ended ≡ None → IsAfter manner standing read asked got sent ended held places owed
+  pub step-says : (next : Standing) (ended : Option Ending) (held after : Held) (places later : List Place) (owed : List ℕ) (words : List (List ℕ)) (reply : Reply) → ended ≡ None → IsAfter manner standing read asked got sent ended held places owed
       → words ≡ front_of held → Skips held after → released_of standing.transaction ≡ [] → 0 < length words → IsTaken manner standing words (Says reply) next → later ≡ places ++ Answer reply ∷ []
       → IsAfter manner next read (asked ++ []) got sent ended after later owed
-  turn-says next ended held after places later owed words reply going s are skips nothing some is more =
+  step-says next ended held after places later owed words reply going s are skips nothing some is more =
       let s = open-now ended held places owed going s in
       let n = is-next held after s.rest words s.goes.0 are skips in
       asks-none next ended after later owed
@@ -296,18 +296,18 @@ module _ (manner : Manner) (standing : Standing) (read : List ℕ) (asked : List
       (subst (λ (p : List Place). IsAfter manner next read asked got sent None after p owed) (sym more)
       (after-says next held after places owed words reply s n nothing some is)))
 
-  pub turn-skips : (ended : Option Ending) (held after : Held) (places : List Place) (owed : List ℕ) (words : List (List ℕ)) → ended ≡ None → IsAfter manner standing read asked got sent ended held places owed
+  pub step-skips : (ended : Option Ending) (held after : Held) (places : List Place) (owed : List ℕ) (words : List (List ℕ)) → ended ≡ None → IsAfter manner standing read asked got sent ended held places owed
       → words ≡ front_of held → Skips held after → released_of standing.transaction ≡ [] → words ≡ [] → IsAfter manner standing read (asked ++ []) got sent ended after places owed
-  turn-skips ended held after places owed words going s are skips nothing none =
+  step-skips ended held after places owed words going s are skips nothing none =
       let s = open-now ended held places owed going s in
       let n = is-next held after s.rest words s.goes.0 are skips in
       asks-none standing ended after places owed
       (subst (λ (e : Option Ending). IsAfter manner standing read asked got sent e after places owed) (sym going) (after-skips held after places owed words s n nothing none))
 
-  pub turn-runs : (ended end : Option Ending) (held after : Held) (places later : List Place) (owed : List ℕ) (next : Standing) (words : List (List ℕ)) (others : List (List (List ℕ))) (command : Command) → ended ≡ None
+  pub step-runs : (ended end : Option Ending) (held after : Held) (places later : List Place) (owed : List ℕ) (next : Standing) (words : List (List ℕ)) (others : List (List (List ℕ))) (command : Command) → ended ≡ None
       → IsAfter manner standing read asked got sent ended held places owed → standing.transaction ≡ Released (words ∷ others) → IsRun words (Asks command) → next ≡ (let x : Standing = record standing { transaction = released others } in x)
       → after ≡ held → later ≡ places ++ Awaits ∷ [] → end ≡ ending_of command → IsAfter manner next read (asked ++ command ∷ []) got sent end after later owed
-  turn-runs ended end held after places later owed next words others command going s is runs then same more ends =
+  step-runs ended end held after places later owed next words others command going s is runs then same more ends =
       let s = open-now ended held places owed going s in
       subst (λ (e : Option Ending). IsAfter manner next read (asked ++ command ∷ []) got sent e after later owed) (sym ends)
       (subst (λ (h : Held). IsAfter manner next read (asked ++ command ∷ []) got sent (ending_of command) h later owed) (sym same)
@@ -315,10 +315,10 @@ module _ (manner : Manner) (standing : Standing) (read : List ℕ) (asked : List
       (subst (λ (n : Standing). IsAfter manner n read (asked ++ command ∷ []) got sent (ending_of command) held (places ++ Awaits ∷ []) owed) (sym then)
       (after-runs held places owed words others command s is runs))))
 
-  pub turn-run-says : (ended : Option Ending) (held : Held) (places later : List Place) (owed : List ℕ) (next : Standing) (words : List (List ℕ)) (others : List (List (List ℕ))) (reply : Reply) → ended ≡ None
+  pub step-run-says : (ended : Option Ending) (held : Held) (places later : List Place) (owed : List ℕ) (next : Standing) (words : List (List ℕ)) (others : List (List (List ℕ))) (reply : Reply) → ended ≡ None
       → IsAfter manner standing read asked got sent ended held places owed → standing.transaction ≡ Released (words ∷ others) → IsRun words (Says reply) → next ≡ (let x : Standing = record standing { transaction = released others } in x)
       → later ≡ places ++ Answer reply ∷ [] → IsAfter manner next read (asked ++ []) got sent ended held later owed
-  turn-run-says ended held places later owed next words others reply going s is runs then more =
+  step-run-says ended held places later owed next words others reply going s is runs then more =
       let s = open-now ended held places owed going s in
       asks-none next ended held later owed
       (subst (λ (e : Option Ending). IsAfter manner next read asked got sent e held later owed) (sym going)
@@ -326,9 +326,9 @@ module _ (manner : Manner) (standing : Standing) (read : List ℕ) (asked : List
       (subst (λ (n : Standing). IsAfter manner n read asked got sent None held (places ++ Answer reply ∷ []) owed) (sym then)
       (after-run-says held places owed words others reply s is runs))))
 
-  pub turn-refused : (ended : Option Ending) (held after : Held) (places later : List Place) (owed : List ℕ) (fault : ReadFault) → ended ≡ None → IsAfter manner standing read asked got sent ended held places owed
+  pub step-refused : (ended : Option Ending) (held after : Held) (places later : List Place) (owed : List ℕ) (fault : ReadFault) → ended ≡ None → IsAfter manner standing read asked got sent ended held places owed
       → Ready held (Err fault) after → later ≡ places ++ Answer (Error Protocol) ∷ [] → IsAfter manner standing read (asked ++ []) got sent (Some ending.Protocol) after later owed
-  turn-refused ended held after places later owed fault going s ready more =
+  step-refused ended held after places later owed fault going s ready more =
       let s = open-now ended held places owed going s in
       let wrong = ready-wrong held s.rest fault after s.goes.0 ready in
       asks-none standing (Some ending.Protocol) after later owed
@@ -336,10 +336,10 @@ module _ (manner : Manner) (standing : Standing) (read : List ℕ) (asked : List
       (after-refused held after places owed s (fault-wrong manner standing s.rest after (wrong.0, request-fault s.rest wrong.0 wrong.1, wrong-held held s.rest fault after wrong.0 s.goes.0 wrong.1 ready))))
 
   -- a client that hasn't given the password has sent too much
-  pub turn-much : (ended : Option Ending) (held after : Held) (places later : List Place) (owed : List ℕ) → ended ≡ None → IsAfter manner standing read asked got sent ended held places owed
+  pub step-much : (ended : Option Ending) (held after : Held) (places later : List Place) (owed : List ℕ) → ended ≡ None → IsAfter manner standing read asked got sent ended held places owed
       → after ≡ held → is_stranger manner standing ≡ true → is_too_much after ≡ true → later ≡ places ++ Answer (Error Protocol) ∷ []
       → IsAfter manner standing read (asked ++ []) got sent (Some ending.Protocol) after later owed
-  turn-much ended held after places later owed going s same stranger much more =
+  step-much ended held after places later owed going s same stranger much more =
       let s = open-now ended held places owed going s in
       asks-none standing (Some ending.Protocol) after later owed
       (subst (λ (p : List Place). IsAfter manner standing read asked got sent (Some ending.Protocol) after p owed) (sym more)
@@ -472,7 +472,7 @@ none-open false = tt
 pub session-new : (manner : Manner) (bytes : List ℕ) (session : Session) → session.ended ≡ None → session.requests ≡ Ok bytes → session.places ≡ [] → bytes_left session.owed ≡ [] → IsFirst manner session.standing → SessionIsAfter manner bytes [] [] [] session
 session-new manner bytes session going is places owed new = (after-new manner session.standing bytes session.ended session.requests session.places (bytes_left session.owed) going is places owed new, none-open session.alone)
 
--- ---- turns of a complete session
+-- ---- steps of a complete session
 
 module _ (manner : Manner) (read : List ℕ) (asked : List Command) (got : List Reply) (sent : List ℕ) where
   -- if no answer is waited for, what waits is alone or not
@@ -492,7 +492,7 @@ module _ (manner : Manner) (read : List ℕ) (asked : List Command) (got : List 
       → IsTaken manner old.standing words one old.standing → new.owed ≡ old.owed → AsksOrWaits old command place goes new → SessionIsAfter manner read asked got sent old
       → SessionIsAfter manner read (asked ++ asked_if goes command) got sent new
   session-asked old new command one place true words asking going several are nothing some is owed asks s =
-      let after = turn-asks manner old.standing read asked got sent old.standing old.ended new.ended old.requests new.requests old.places new.places (bytes_left old.owed) words one command place asking going s.0 are asks.skips nothing some is asks.places asks.ended in
+      let after = step-asks manner old.standing read asked got sent old.standing old.ended new.ended old.requests new.requests old.places new.places (bytes_left old.owed) words one command place asking going s.0 are asks.skips nothing some is asks.places asks.ended in
       let waiting = open-more new.alone (length got) asked command s.0.fits (subst (λ (b : Bool). MayBeOpen b (drop (length got) asked)) several s.1) asks.alone
       (λ alone. session-closed old s (ap has_open (asks.gathered alone).0)) in (
         subst (λ (o : List ℕ). IsAfter manner new.standing read (asked ++ command ∷ []) got sent new.ended new.requests new.places o) (sym (ap bytes_left owed))
@@ -504,29 +504,29 @@ module _ (manner : Manner) (read : List ℕ) (asked : List Command) (got : List 
       (subst (λ (n : Session). SessionIsAfter manner read asked got sent n) (sym same) (s.0, inl (subst (λ (b : Bool). MayBeOpen b (drop (length got) asked)) several s.1)))
 
   -- a request is answered at once
-  pub session-says : (old new : Session) (next : Standing) (reply : Reply) (result : Turn) (words : List (List ℕ)) → old.ended ≡ None → words ≡ front_of old.requests → released_of old.standing.transaction ≡ [] → 0 < length words
-      → IsTaken manner old.standing words (Says reply) next → Skips old.requests new.requests → result ≡ turn.Goes
-      → new ≡ (let x : Session = record old { standing = next; requests = new.requests; places = old.places ++ Answer reply ∷ [] } in x) → SessionIsAfter manner read asked got sent old
+  pub session-says : (old new : Session) (later : Standing) (reply : Reply) (result : Next) (words : List (List ℕ)) → old.ended ≡ None → words ≡ front_of old.requests → released_of old.standing.transaction ≡ [] → 0 < length words
+      → IsTaken manner old.standing words (Says reply) later → Skips old.requests new.requests → result ≡ next.Goes
+      → new ≡ (let x : Session = record old { standing = later; requests = new.requests; places = old.places ++ Answer reply ∷ [] } in x) → SessionIsAfter manner read asked got sent old
       → SessionIsAfter manner read (asked ++ asked_in result) got sent new
-  session-says old new next reply result words going are nothing some is skips goes after s =
-      let said = turn-says manner old.standing read asked got sent next old.ended old.requests new.requests old.places (old.places ++ Answer reply ∷ []) (bytes_left old.owed) words reply going s.0 are skips nothing some is refl in
-      subst (λ (t : Turn). SessionIsAfter manner read (asked ++ asked_in t) got sent new) (sym goes)
+  session-says old new later reply result words going are nothing some is skips goes after s =
+      let said = step-says manner old.standing read asked got sent later old.ended old.requests new.requests old.places (old.places ++ Answer reply ∷ []) (bytes_left old.owed) words reply going s.0 are skips nothing some is refl in
+      subst (λ (t : Next). SessionIsAfter manner read (asked ++ asked_in t) got sent new) (sym goes)
       (subst (λ (n : Session). SessionIsAfter manner read (asked ++ []) got sent n) (sym after) (said, open-same old.alone (length got) asked s.1))
 
   -- a command that EXEC has released is asked, or has to wait
-  pub session-released : (old new : Session) (command : Command) (turn : Turn) → old.ended ≡ None → old.alone ≡ false → new.owed ≡ old.owed → ReleasesOrWaits old command turn new → SessionIsAfter manner read asked got sent old
-      → SessionIsAfter manner read (asked ++ asked_in turn) got sent new
-  session-released old new command turn going several owed (inl asks) s =
-      let after = turn-runs manner old.standing read asked got sent old.ended new.ended old.requests new.requests old.places new.places (bytes_left old.owed) new.standing asks.words asks.others command going s.0 asks.released_is asks.said asks.standing asks.held asks.places asks.ended in
+  pub session-released : (old new : Session) (command : Command) (step : Next) → old.ended ≡ None → old.alone ≡ false → new.owed ≡ old.owed → ReleasesOrWaits old command step new → SessionIsAfter manner read asked got sent old
+      → SessionIsAfter manner read (asked ++ asked_in step) got sent new
+  session-released old new command step going several owed (inl asks) s =
+      let after = step-runs manner old.standing read asked got sent old.ended new.ended old.requests new.requests old.places new.places (bytes_left old.owed) new.standing asks.words asks.others command going s.0 asks.released_is asks.said asks.standing asks.held asks.places asks.ended in
       let waiting = open-more new.alone (length got) asked command s.0.fits (subst (λ (b : Bool). MayBeOpen b (drop (length got) asked)) several s.1) asks.alone
       (λ alone. session-closed old s (ap has_open (asks.gathered alone).0)) in
-      subst (λ (t : Turn). SessionIsAfter manner read (asked ++ asked_in t) got sent new) (sym asks.asks)
+      subst (λ (t : Next). SessionIsAfter manner read (asked ++ asked_in t) got sent new) (sym asks.asks)
       (subst (λ (c : Command). SessionIsAfter manner read (asked ++ c ∷ []) got sent new) (sym asks.call_is) (
         subst (λ (o : List ℕ). IsAfter manner new.standing read (asked ++ command ∷ []) got sent new.ended new.requests new.places o) (sym (ap bytes_left owed)) after,
         waiting,
       ))
-  session-released old new command turn going several owed (inr (full, same)) s =
-      subst (λ (t : Turn). SessionIsAfter manner read (asked ++ asked_in t) got sent new) (sym full)
+  session-released old new command step going several owed (inr (full, same)) s =
+      subst (λ (t : Next). SessionIsAfter manner read (asked ++ asked_in t) got sent new) (sym full)
       (subst (λ (a : List Command). SessionIsAfter manner read a got sent new) (sym (append-nil asked))
       (subst (λ (n : Session). SessionIsAfter manner read asked got sent n) (sym same) (s.0, inl (subst (λ (b : Bool). MayBeOpen b (drop (length got) asked)) several s.1))))
 
@@ -535,15 +535,15 @@ module _ (manner : Manner) (read : List ℕ) (asked : List Command) (got : List 
       → old.standing.transaction ≡ Released (words ∷ others) → IsRun words (Says reply) → next ≡ (let x : Standing = record old.standing { transaction = released others } in x) → places ≡ old.places ++ Answer reply ∷ []
       → SessionIsAfter manner read asked got sent old → IsAfter manner next read (asked ++ []) got sent old.ended old.requests places (bytes_left old.owed) × MayBeOpen old.alone (drop (length got) (asked ++ []))
   session-run-says old places next words others reply going is runs then more s = (
-    turn-run-says manner old.standing read asked got sent old.ended old.requests old.places places (bytes_left old.owed) next words others reply going s.0 is runs then more,
+    step-run-says manner old.standing read asked got sent old.ended old.requests old.places places (bytes_left old.owed) next words others reply going s.0 is runs then more,
     open-same old.alone (length got) asked s.1,
   )
 
   -- the protocol error is the last answer
-  pub session-refused : (old new : Session) (held : Held) (result : Turn) → new ≡ (let x : Session = record old { requests = held; places = old.places ++ Answer (Error Protocol) ∷ []; ended = Some ending.Protocol } in x)
-      → result ≡ turn.Ends ending.Protocol → MayBeOpen old.alone (drop (length got) asked)
+  pub session-refused : (old new : Session) (held : Held) (result : Next) → new ≡ (let x : Session = record old { requests = held; places = old.places ++ Answer (Error Protocol) ∷ []; ended = Some ending.Protocol } in x)
+      → result ≡ next.Ends ending.Protocol → MayBeOpen old.alone (drop (length got) asked)
       → IsAfter manner old.standing read (asked ++ []) got sent (Some ending.Protocol) held (old.places ++ Answer (Error Protocol) ∷ []) (bytes_left old.owed)
       → SessionIsAfter manner read (asked ++ asked_in result) got sent new
   session-refused old new held result is ends few after =
-      subst (λ (t : Turn). SessionIsAfter manner read (asked ++ asked_in t) got sent new) (sym ends)
+      subst (λ (t : Next). SessionIsAfter manner read (asked ++ asked_in t) got sent new) (sym ends)
       (subst (λ (n : Session). SessionIsAfter manner read (asked ++ []) got sent n) (sym is) (after, open-same old.alone (length got) asked few))

@@ -7,7 +7,7 @@ use Rattle.xs_session.specs.declared.manner.Manner.{Manner}
 use Rattle.xs_session.specs.declared.ending.Ending.{Ending}
 use Rattle.xs_session.specs.Answers.{MayBeOpen}
 use Rattle.xs_session.specs.Session.{IsAfter, IsFirst}
-use Rattle.xs_session.proofs.examples.turns_of_sessions.Goals as goal
+use Rattle.xs_session.proofs.examples.steps_of_sessions.Goals as goal
 
 begins : (manner : Manner) (standing : Standing) (ended : Option Ending) (held : Held) (places : List Place) (owed : List ℕ) → ended ≡ None → held ≡ Ok [] → places ≡ [] → owed ≡ [] → IsFirst manner standing → IsAfter manner standing [] [] [] [] ended held places owed
 begins manner standing ended held places owed goes holds none nothing new =

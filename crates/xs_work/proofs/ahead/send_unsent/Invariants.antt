@@ -5,7 +5,7 @@ use Rattle.xs_resp.specs.LeftToWrite.{bytes_left}
 use Rattle.xs_command.specs.declared.command.Command.{Command}
 use Rattle.xs_session.specs.declared.manner.Manner.{Manner}
 use Rattle.xs_session.specs.Session.{SessionIsAfter}
-use Rattle.xs_work.proofs.ahead.send_owed.Given as goal
+use Rattle.xs_work.proofs.ahead.send_unsent.Given as goal
 
 -- these bytes are sent
 abbrev pub invariant-pieces : goal.invariant-pieces
