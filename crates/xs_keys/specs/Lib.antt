@@ -12,6 +12,7 @@ pub mod Content
 pub mod ConsistentContent
 pub mod ContentAfter
 pub mod KeysRoom
+pub mod GroupChange
 pub mod NextName
 pub mod ReplyParts
 pub mod Inspecting

@@ -5,6 +5,7 @@ mod account;
 pub mod clock;
 mod del;
 pub mod examples;
+mod group_change;
 mod in_vain;
 mod inspect;
 pub mod keys;

@@ -7,8 +7,8 @@ ghost use Rattle.xs_keys.specs.ContentAfter.{group_after};
 ghost use Rattle.xs_keys.specs.ReplyParts.{scan_reply};
 ghost use Rattle.xs_keys.specs.Step.{Attempt};
 
+use crate::group_change::change_group;
 use crate::keys::Keys;
-use crate::let_group::let_group;
 use crate::showing::{push_id, push_ids, push_taken};
 use std::alloc::{AllocError, Global};
 use xs_command::{AutoClaimCommand, Command};
@@ -69,12 +69,11 @@ pub fn claim(
 ) -> Result<Reply, AllocError>
     ensures { Attempt keys.old now (Command.AutoClaim command.now) result keys.new }
 {
-    let_group!(
-        slot, group = keys, &command.key, &command.group,
-        else { return Ok(Reply::Error(Fault::NoGroup)) }
-    );
-    let before = group.room();
-    let claimed = claim_in(group, alloc, &slot.stream, now, command);
-    keys.account.change(before, group.room());
-    claimed
+    let claimed = change_group(keys, &command.key, &command.group, |group, stream| {
+        claim_in(group, alloc, stream, now, command)
+    });
+    match claimed {
+        Ok(reply) => reply,
+        Err(_) => Ok(Reply::Error(Fault::NoGroup)),
+    }
 }

@@ -10,6 +10,7 @@ ghost use Rattle.xs_keys.specs.Grouping.{Creates};
 ghost use Rattle.xs_keys.specs.Step.{AppliedAtAnyTime, Attempt, AttemptAtAnyTime};
 
 use crate::account::{Account, NoMemory};
+use crate::group_change::change_group;
 use crate::keys::{Groups, Keys, Slot};
 use crate::let_group::let_group;
 use crate::name_map::NameMap;
@@ -239,13 +240,9 @@ pub fn create_consumer(
 pub fn delete_consumer(keys: &mut Keys, key: &Bytes, group: &Bytes, consumer: &Bytes) -> Reply
     ensures { AppliedAtAnyTime keys.old (Command.ConsumerDelete key.now group.now consumer.now) result keys.new }
 {
-    let_group!(
-        slot, group = keys, key, group,
-        else { return Reply::Error(Fault::NoKey) },
-        else { return Reply::Error(Fault::NoGroup) }
-    );
-    let before = group.room();
-    let count = group.remove_consumer(consumer);
-    keys.account.change(before, group.room());
-    Reply::Int(U63::new(count))
+    let removed = change_group(keys, key, group, |group, _| group.remove_consumer(consumer));
+    match removed {
+        Ok(count) => Reply::Int(U63::new(count)),
+        Err(fault) => Reply::Error(fault),
+    }
 }
