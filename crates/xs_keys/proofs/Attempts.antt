@@ -3,7 +3,7 @@ use Rattle.std.proofs.Common.{ℕ, Result, Ok, Err, IfOk, OnOk, OnErr}
 use Rattle.std.specs.declared.alloc.AllocError.{AllocError}
 use Rattle.xs_keys.specs.Terms.{Reply, Error, Memory, Command}
 use Rattle.xs_keys.specs.Content.{Content}
-use Rattle.xs_keys.specs.Step.{Step, Applied, OutOfMemory, Attempt}
+use Rattle.xs_keys.specs.Step.{Applied, OutOfMemory, Attempt}
 
 module _ (old : Content) (now : ℕ) (command : Command) (new : Content) where
   pub attempted : (result : Result Reply AllocError) (Answers : Reply → Type 0) (Changes Refuses : Type 0) → IfOk result Answers → OnOk result Changes → OnErr result Refuses

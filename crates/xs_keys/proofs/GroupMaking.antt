@@ -4,7 +4,7 @@ use Rattle.std.specs.declared.alloc.AllocError.{AllocError}
 use Rattle.std.specs.Ordering.{nat_cmp}
 use Rattle.std.specs.Cmp.Lexicographic.{slice_cmp}
 use Rattle.xs_bytes.proofs.SortedMaps.{get-empty}
-use Rattle.xs_keys.specs.Terms.{NameMap, empty, get, insert, has_key, GroupState, new_group, Reply, Simple, Error, Okay}
+use Rattle.xs_keys.specs.Terms.{NameMap, empty, get, insert, has_key, GroupState, new_group, Reply, Simple, Okay}
 use Rattle.xs_keys.specs.Terms.{GroupCreateCommand, GroupCreate}
 use Rattle.xs_keys.specs.GroupLife.{starting_id}
 use Rattle.xs_keys.specs.Content.{Content, KeyState}

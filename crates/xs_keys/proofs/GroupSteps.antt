@@ -3,7 +3,7 @@ use Rattle.std.proofs.Common.{◌≡◌, ℕ, Bool, true, false, cond, List, [],
 use Rattle.std.proofs.Common.{is_some, sym, ap, subst, ◌∙◌, refl, not, ◌&&◌, ◌||◌}
 use Rattle.std.proofs.lemmas.List.{append-nil}
 use Rattle.xs_bytes.specs.Each.{each}
-use Rattle.xs_bytes.specs.SortedMap.{empty, get, change, remove}
+use Rattle.xs_bytes.specs.SortedMap.{empty, get, change}
 use Rattle.xs_bytes.proofs.SortedMaps.{get-empty}
 use Rattle.xs_group.specs.GroupState.{RowState, Rows, GroupState, Consumers, is_same_name, has_name, with_name, is_any, new_ids}
 use Rattle.xs_group.specs.GroupState.{last_of}

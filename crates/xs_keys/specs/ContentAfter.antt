@@ -1,9 +1,9 @@
 -- The content after each command. (The pages of the commands.)
-use Rattle.std.specs.Prelude.{ℕ, List, Option, Some, None, Bool, [], ◌∷◌, ◌++◌, option_and_then, Result, Ok, Err}
+use Rattle.std.specs.Prelude.{ℕ, List, Option, Some, None, Bool, [], ◌∷◌, option_and_then, Result, Ok, Err}
 use Rattle.std.specs.Prelude.{is_some, if◌then◌else◌}
 use Rattle.xs_keys.specs.Terms.{list_all, option_or, option_map_or, get, Id, StreamState, ids_of, GroupState, Command}
 use Rattle.xs_keys.specs.Terms.{empty}
-use Rattle.xs_keys.specs.Terms.{has_key, insert, remove, Field, Trim, AddError, zero_id, id_of_addition}
+use Rattle.xs_keys.specs.Terms.{has_key, insert, remove, Field, Trim, AddError, id_of_addition}
 use Rattle.xs_keys.specs.Terms.{entries_after_trim, new_stream, with_entry, with_deleted}
 use Rattle.xs_keys.specs.Terms.{with_consumer, group_after_delivery, group_after_reread, claim_by_ids, scan_of}
 use Rattle.xs_keys.specs.Terms.{group_after_claim, new_group, group_after_ack}

@@ -5,7 +5,7 @@ use Rattle.xs_stream.specs.StreamContent.{entries_within}
 use Rattle.xs_keys.specs.Terms.{StreamState, GroupState, ConsumerReport, PendingRow, consumer_reports, pending_of, Reply}
 use Rattle.xs_keys.specs.Terms.{Int, Bulk}
 use Rattle.xs_keys.specs.Content.{KeyState}
-use Rattle.xs_keys.specs.Event.{Bytes, Entries}
+use Rattle.xs_keys.specs.Event.{Bytes}
 use Rattle.xs_keys.specs.ReplyParts.{array, id_reply, present_reply}
 use Rattle.xs_keys.specs.Inspecting.{whole_range, end_of, end_id, size_part, past_part, progress_part}
 

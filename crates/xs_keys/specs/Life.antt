@@ -2,7 +2,7 @@
 use Rattle.std.specs.Prelude.{ℕ, Bool, List, [], ◌∷◌, Option, Some, None, if◌then◌else◌, true, false, ◌&&◌, ◌++◌}
 use Rattle.std.specs.Prelude.{filter, length, Result, Ok, Err, is_ok}
 use Rattle.xs_keys.specs.Terms.{option_map, option_map_or, option_or, list_any, Id, AddId, Trim, Field, is_same_name}
-use Rattle.xs_keys.specs.Terms.{Command, Add, Delete, TrimTo, GroupCreate, DropKeys, AddError, is_below, has_id}
+use Rattle.xs_keys.specs.Terms.{Command, Add, Delete, TrimTo, GroupCreate, DropKeys, AddError, has_id}
 use Rattle.xs_keys.specs.Terms.{zero_id, is_trimmed, id_of_addition, StreamState, ids_of, greatest}
 use Rattle.xs_keys.specs.Event.{Bytes, History, Entries, event_moment, event_command}
 

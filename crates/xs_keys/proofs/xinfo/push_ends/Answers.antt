@@ -2,7 +2,7 @@ use Rattle.std.proofs.Common.{◌≡◌, List, ◌++◌, [], ◌∷◌, codes, O
 use Rattle.std.specs.List.{flat_map}
 use Rattle.xs_resp.specs.Token.{Token}
 use Rattle.xs_resp.specs.ReplyItems.{tokens_of}
-use Rattle.xs_keys.specs.Terms.{Reply, Bulk, Int}
+use Rattle.xs_keys.specs.Terms.{Bulk, Int}
 use Rattle.xs_keys.specs.Inspecting.{end_reply}
 use Rattle.xs_keys.proofs.Appending.{appended, appended-last}
 use Rattle.xs_keys.proofs.xinfo.push_ends.Goals as goal

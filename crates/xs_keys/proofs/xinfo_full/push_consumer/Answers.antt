@@ -1,7 +1,4 @@
-use Rattle.std.proofs.Common.{◌≡◌, List, ◌++◌, [], ◌∷◌, codes, length, map, None, Some, OnOk, sym, ap, ◌∙◌, subst, arith}
-use Rattle.std.specs.List.{flat_map}
-use Rattle.xs_resp.specs.Token.{Token}
-use Rattle.xs_resp.specs.ReplyItems.{tokens_of}
+use Rattle.std.proofs.Common.{arith}
 use Rattle.xs_keys.specs.InspectingInFull.{own_row_reply}
 use Rattle.xs_keys.proofs.Appending.{appended, array-last}
 use Rattle.xs_keys.proofs.xinfo_full.push_consumer.Goals as goal

@@ -1,6 +1,5 @@
-use Rattle.std.proofs.Common.{◌≡◌, List, ◌++◌, [], ◌∷◌, codes, length, map, None, Some, OnOk, sym, ap, ◌∙◌, subst}
+use Rattle.std.proofs.Common.{◌≡◌, ◌++◌, Some, OnOk, ap, ◌∙◌, subst}
 use Rattle.std.specs.List.{flat_map}
-use Rattle.xs_resp.specs.Token.{Token}
 use Rattle.xs_resp.specs.ReplyItems.{tokens_of}
 use Rattle.xs_keys.specs.Terms.{pending_of}
 use Rattle.xs_keys.specs.Inspecting.{whole_range}

@@ -1,6 +1,5 @@
-use Rattle.std.proofs.Common.{◌≡◌, List, ◌++◌, [], ◌∷◌, codes, length, map, None, Some, OnOk, sym, ap, ◌∙◌, subst, arith}
+use Rattle.std.proofs.Common.{◌≡◌, ◌++◌, codes, map, OnOk, subst, arith}
 use Rattle.std.specs.List.{flat_map}
-use Rattle.xs_resp.specs.Token.{Token}
 use Rattle.xs_resp.specs.ReplyItems.{tokens_of}
 use Rattle.xs_keys.specs.InspectingInFull.{whole_consumer_reply, listed_part}
 use Rattle.xs_keys.proofs.Appending.{array-last}
