@@ -1,5 +1,5 @@
 //! Replies as bytes (RESP protocol specification, version 2).
-ghost use Rattle.std.specs.Prelude.{◌≡◌, ◌++◌, ◌∷◌, OnOk, OnErr, length, ◌+◌, ◌<◌, ◌≤◌, vec_len, vec_capacity, IsOk, decimal};
+ghost use Rattle.std.specs.Prelude.{◌≡◌, ◌++◌, ◌∷◌, OnOk, OnErr, length, ◌+◌, ◌<◌, ◌≤◌, vec_len, vec_capacity, IsOk};
 ghost use Rattle.std.specs.List.{flat_map};
 ghost use Rattle.xs_resp.specs.ReplyText.{text, token_text, simple_text, Writes};
 ghost use Rattle.xs_resp.specs.Line.{line, crlf};
@@ -104,38 +104,24 @@ pub(crate) fn write_header(mark: Mark, string: &[u8], out: &mut Vec<u8>) -> Resu
     }
 }
 
-/// Appends the end of a line. Few bytes are pushed in fewer instructions than they are copied, here and below.
-fn write_end(out: &mut Vec<u8>) -> Result<(), AllocError>
-    ensures text { Writes result out.old.items out.new.items crlf }
+/// Appends a marker, a digit and the end of the line.
+fn write_digit(marker: u8, digit: u8, out: &mut Vec<u8>) -> Result<(), AllocError>
+    ensures text { Writes result out.old.items out.new.items (marker ∷ digit ∷ crlf) }
     ensures grows { vec_capacity out.old ≤ vec_capacity out.new }
-    ensures fits { vec_len out.old + 2 ≤ vec_capacity out.old → IsOk result }
-    ensures short { vec_len out.new ≤ vec_len out.old + 2 }
+    ensures fits { vec_len out.old + 8 ≤ vec_capacity out.old → IsOk result }
+    ensures short { vec_len out.new ≤ vec_len out.old + 8 }
 {
-    out.push(b'\r')?;
-    out.push(b'\n')?;
-    Ok(())
+    out.extend_from_slice(&[marker, digit, b'\r', b'\n'])
 }
 
-/// Appends the digits of a number.
-fn write_digits(number: u64, out: &mut Vec<u8>) -> Result<(), AllocError>
-    ensures text { Writes result out.old.items out.new.items (decimal number) }
+/// Appends a marker, two digits and the end of the line.
+fn write_two_digits(marker: u8, ten: u8, one: u8, out: &mut Vec<u8>) -> Result<(), AllocError>
+    ensures text { Writes result out.old.items out.new.items (marker ∷ ten ∷ one ∷ crlf) }
     ensures grows { vec_capacity out.old ≤ vec_capacity out.new }
-    ensures fits { vec_len out.old + 20 ≤ vec_capacity out.old → IsOk result }
-    ensures short { vec_len out.new ≤ vec_len out.old + 20 }
+    ensures fits { vec_len out.old + 8 ≤ vec_capacity out.old → IsOk result }
+    ensures short { vec_len out.new ≤ vec_len out.old + 8 }
 {
-    if number < 10 {
-        // Most lengths and counts have one digit or two.
-        out.push(b'0' + number as u8)?;
-        return Ok(());
-    }
-    if number < 100 {
-        let number = number as u8;
-        out.push(b'0' + number / 10)?;
-        out.push(b'0' + number % 10)?;
-        return Ok(());
-    }
-    let mut digits = Buffer::new();
-    out.extend_from_slice(digits.format(number).as_bytes())
+    out.extend_from_slice(&[marker, ten, one, b'\r', b'\n'])
 }
 
 /// Appends a marker, a number and the end of the line.
@@ -145,9 +131,18 @@ pub(crate) fn write_line(marker: u8, number: u64, out: &mut Vec<u8>) -> Result<(
     ensures fits { vec_len out.old + 32 ≤ vec_capacity out.old → IsOk result }
     ensures short { vec_len out.new ≤ vec_len out.old + 32 }
 {
+    if number < 10 {
+        // Most lengths and counts have one digit or two.
+        return write_digit(marker, b'0' + number as u8, out);
+    }
+    if number < 100 {
+        let number = number as u8;
+        return write_two_digits(marker, b'0' + number / 10, b'0' + number % 10, out);
+    }
     out.push(marker)?;
-    write_digits(number, out)?;
-    write_end(out)
+    let mut digits = Buffer::new();
+    out.extend_from_slice(digits.format(number).as_bytes())?;
+    out.extend_from_slice(b"\r\n")
 }
 
 fn write_bulk(bytes: &[u8], out: &mut Vec<u8>) -> Result<(), AllocError>
@@ -158,7 +153,7 @@ fn write_bulk(bytes: &[u8], out: &mut Vec<u8>) -> Result<(), AllocError>
 {
     write_line(b'$', bytes.len() as u64, out)?;
     out.extend_from_slice(bytes)?;
-    write_end(out)
+    out.extend_from_slice(b"\r\n")
 }
 
 fn write_simple(simple: Simple, out: &mut Vec<u8>) -> Result<(), AllocError>
@@ -184,7 +179,7 @@ fn write_fault(fault: Fault, out: &mut Vec<u8>) -> Result<(), AllocError>
 {
     out.push(b'-')?;
     out.extend_from_slice(fault.text().as_bytes())?;
-    write_end(out)
+    out.extend_from_slice(b"\r\n")
 }
 
 fn write_error_text(text: &[u8], out: &mut Vec<u8>) -> Result<(), AllocError>
@@ -194,5 +189,5 @@ fn write_error_text(text: &[u8], out: &mut Vec<u8>) -> Result<(), AllocError>
 {
     out.push(b'-')?;
     out.extend_from_slice(text)?;
-    write_end(out)
+    out.extend_from_slice(b"\r\n")
 }
