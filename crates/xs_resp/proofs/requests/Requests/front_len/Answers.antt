@@ -1,6 +1,6 @@
-use Rattle.std.proofs.Common.{◌≡◌, Ok, sym, ap, ◌∙◌, subst}
+use Rattle.std.proofs.Common.{◌≡◌, Ok, ap, ◌∙◌, subst}
 use Rattle.xs_resp.specs.Progress.{Reaches}
-use Rattle.xs_resp.specs.Reading.{request, IsWhole}
+use Rattle.xs_resp.specs.Reading.{request}
 use Rattle.xs_resp.proofs.Skipping.{held-bytes, same-end}
 use Rattle.xs_resp.proofs.requests.Requests.front_len.Goals as goal
 
