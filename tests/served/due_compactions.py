@@ -70,11 +70,10 @@ class Heard:
 
 
 def fill_log(server):
-    """A client has the server close its last log."""
+    """A client has the server close its last log, which is reason enough for a compaction."""
     with Connection(server.port) as one:
-        one.send(*[ADDITION] * 65)
-        for _ in range(65):
-            one.answer()
+        one.send([*ADDITION[:-1], b"v" * logs.LEAST_CLOSED])
+        one.answer()
 
 
 def write_due(folder):
