@@ -246,12 +246,12 @@ def the_next_log_is_kept(program):
     value = b"v" * 1_000_000
     with syncs.counted() as told, new_folder() as folder:
         with logged(program, folder, "no") as server, Connection(server.port) as one:
-            for place in range(1, 67):
+            for place in range(1, 16):
                 one.ask("XADD", "s", f"{place}-0", "f", value)
         with (logged(program, folder, "second", compact="never", environment=told.environment) as server,
               Connection(server.port) as one):
             assert logs.numbers(folder) == [1] and told.kept(folder) == 0
-            for place in (67, 68, 69):
+            for place in (16, 17, 18):
                 one.ask("XADD", "s", f"{place}-0", "f", value)
             assert logs.numbers(folder) == [1, 2] and told.kept(folder) > 0, "the name of the next log isn't kept"
             is_kept_in_time(told, last_log(folder))
@@ -308,13 +308,13 @@ def a_sync_of_a_closed_log_fails(program):
         with logged(program, folder, "no", environment=told.environment) as server, Connection(server.port) as one:
             told.fail()
             with contextlib.suppress(OSError):
-                for place in range(1, 69):
+                for place in range(1, 18):
                     one.ask("XADD", "s", f"{place}-0", "f", value)
             failed_log(server)
             assert logs.numbers(folder) == [1]
         told.fail(0)
         with logged(program, folder, "no") as server:
-            say_at(server, "XLEN s", number(68))
+            say_at(server, "XLEN s", number(17))
 
 
 def idle_costs_no_sync(program):
